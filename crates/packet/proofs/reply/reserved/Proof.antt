@@ -1,0 +1,21 @@
+use borrow.Author.Needs.{needs}
+use Rattle.packet.proofs.Tests.{tests}
+use Rattle.packet.proofs.reply.reserved.Statement.{statement}
+use Rattle.packet.proofs.reply.reserved.Tie as tie
+use Rattle.packet.proofs.reply.reserved.Reads as reads
+use Rattle.packet.proofs.reply.reserved.Lts as lts
+
+returns : tie.Need-returns
+returns c = search (needs, tests)
+
+returns-2 : tie.Need-returns-2
+returns-2 c = search (needs, tests)
+
+returns-3 : tie.Need-returns-3
+returns-3 c = search (needs, tests)
+
+returns-4 : tie.Need-returns-4
+returns-4 c = search (needs, tests)
+
+pub reserved-spec : {M : Type 1} → statement M
+reserved-spec = tie.close (tie.spec returns returns-2 returns-3 returns-4)

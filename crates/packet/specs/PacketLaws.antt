@@ -1,0 +1,68 @@
+-- Theorems on the packet's definition.
+use mathlib.Core.Path.{_≡_, refl, sym, ap, _∙_}
+use mathlib.Core.Bool.{Bool, true, false, cond}
+use mathlib.Core.List.{List, [], _∷_, _++_, append-assoc, append-nil}
+use Prim.Native.Nat.{ℕ, suc, _+_, _*_, _%_, _<_, _≤_}
+use native.Mathlib.Nat.{zero-add, add-zero, add-assoc, mod-add-mod}
+use native.Mathlib.Omega.{arith}
+use lib.ListN.{length, getD, replicate, length-append}
+use lib.Dec.{eqb, leb}
+use borrow.Author.Tests.{eq-eqb, ne-eqb, eqb-true, eqb-false, leb-true, leb-false}
+use Rattle.packet.specs.Packet.{
+  total,
+  checksum,
+  escape-byte,
+  escape,
+  fields,
+  packet-of,
+  packet,
+  unescape-from,
+  unescape,
+  command-byte,
+}
+use Rattle.packet.specs.declared.writer.Access.{Access}
+use Rattle.packet.specs.declared.writer.Access.the-variants.{Write, Read}
+
+-- the checksum and the escapes, over a list that grows at its end
+
+total-append : (xs ys : List ℕ) → total (xs ++ ys) ≡ total xs + total ys
+unfolding total
+total-append [] ys = sym (zero-add (total ys))
+total-append (x ∷ xs) ys = rw (total-append xs ys) (sym (add-assoc x (total xs) (total ys)))
+
+pub checksum-snoc : (xs : List ℕ) (b : ℕ) → checksum (xs ++ b ∷ []) ≡ (checksum xs + b) % 256
+unfolding checksum total
+checksum-snoc xs b = rw (total-append xs (b ∷ []), mod-add-mod, add-zero)
+
+pub escape-append : (xs ys : List ℕ) → escape (xs ++ ys) ≡ escape xs ++ escape ys
+unfolding escape
+escape-append [] ys = refl
+escape-append (x ∷ xs) ys = rw (escape-append xs ys) (sym (append-assoc (escape-byte x) (escape xs) (escape ys)))
+
+-- a byte's escape, case by case
+
+pub escape-start : (b : ℕ) → b ≡ 0xA5 → escape-byte b ≡ 0x5A ∷ 0x00 ∷ []
+unfolding escape-byte
+escape-start b e = rw (eq-eqb b 0xA5 e)
+
+pub escape-escape : (b : ℕ) → b ≡ 0x5A → escape-byte b ≡ 0x5A ∷ 0x5A ∷ []
+unfolding escape-byte
+escape-escape b e = rw e
+
+pub escape-other : (b : ℕ) → (b ≡ 0xA5 → ⊥) → (b ≡ 0x5A → ⊥) → escape-byte b ≡ b ∷ []
+unfolding escape-byte
+escape-other b s e = rw (ne-eqb b 0xA5 s, ne-eqb b 0x5A e)
+
+pub escape-byte-short : (b : ℕ) → length (escape-byte b) ≤ 2
+unfolding escape-byte
+escape-byte-short b = short (eqb b 0xA5) (eqb b 0x5A)
+  where
+    short : (x y : Bool) → length (cond x (0x5A ∷ 0x00 ∷ []) (cond y (0x5A ∷ 0x5A ∷ []) (b ∷ []))) ≤ 2
+    short true y = omega arith
+    short false true = omega arith
+    short false false = omega arith
+
+-- a packet's length, field by field
+pub fields-length : (k n : ℕ) (d : List ℕ) (s : ℕ) → length (fields k n d s) ≡ 1 + length (escape-byte k) + length (escape-byte n) + length (escape d) + length (escape-byte s)
+unfolding fields
+fields-length k n d s = simp length-append (omega arith)

@@ -1,0 +1,53 @@
+-- What the reply reader is to answer.
+use Prim.Native.Nat.{ℕ, suc, _+_}
+use mathlib.Core.Bool.{Bool, true, false, cond, _||_, _&&_}
+use mathlib.Core.List.{List, [], _∷_}
+use lib.ListN.{length, getD, take, drop}
+use lib.Dec.{leb, eqb}
+use Rattle.packet.specs.Answer.{Answer, refused, accepted, number}
+use Rattle.packet.specs.Packet.{checksum}
+use Rattle.packet.specs.declared.writer.Access.{Access}
+use Rattle.packet.specs.declared.writer.Access.the-variants.{Write, Read}
+use Rattle.packet.specs.declared.reply.Reply.{Reply}
+use Rattle.packet.specs.declared.reply.ReplyRead.{ReplyRead}
+use Rattle.packet.specs.declared.reply.ReplyRead.the-variants.{Whole, Refused}
+
+abbrev pub answer : ReplyRead → Answer Reply
+answer (Refused r) = refused (number r)
+answer (Whole r) = accepted r
+
+-- how many 0xFF stand at the front
+unfoldable pub dummies : List ℕ → ℕ
+dummies [] = 0
+dummies (b ∷ bs) = cond (eqb b 0xFF) (suc (dummies bs)) 0
+
+-- "reserved response (00, 06, 09 to FE)"
+abbrev pub reserved : ℕ → Bool
+reserved b = eqb b 0x00 || eqb b 0x06 || (leb 0x09 b && leb b 0xFE)
+
+-- a reply that is a response alone; `at` is the offset after it
+abbrev pub response-only : ℕ → ℕ → Reply
+response-only response at = record { response = response; start = at; count = 0; end = at }
+
+-- what follows response 01 where a read was asked: a length m at offset `at`, m data bytes, and the sum of these and the response
+unfoldable pub payload-at : ℕ → List ℕ → Answer Reply
+payload-at at [] = refused 12
+payload-at at (m ∷ bytes) =
+    cond (leb (length bytes) m) (refused 12)
+    (cond (eqb (getD bytes m 0) (checksum (0x01 ∷ m ∷ take m bytes)))
+    (accepted (record { response = 0x01; start = at + 1; count = m; end = at + 1 + m + 1 }))
+    (refused 11))
+
+-- only a read's success has more than its response
+unfoldable pub after-response : Access → ℕ → ℕ → List ℕ → Answer Reply
+after-response Write response at bytes = accepted (response-only response at)
+after-response Read response at bytes = cond (eqb response 0x01) (payload-at at bytes) (accepted (response-only response at))
+
+-- the reply at offset `at`, where `bytes` begin
+unfoldable pub reply-at : Access → ℕ → List ℕ → Answer Reply
+reply-at asked at [] = refused 12
+reply-at asked at (response ∷ bytes) = cond (reserved response) (refused 11) (after-response asked response (at + 1) bytes)
+
+-- "It skips leading 0xFF, then tells the response, the data and where the reply ends; bytes after are not judged."
+abbrev pub reply : Access → List ℕ → Answer Reply
+reply asked bytes = reply-at asked (dummies bytes) (drop (dummies bytes) bytes)
