@@ -53,15 +53,6 @@ pub escape-other : (b : ℕ) → (b ≡ 0xA5 → ⊥) → (b ≡ 0x5A → ⊥) �
 unfolding escape-byte
 escape-other b s e = rw (ne-eqb b 0xA5 s, ne-eqb b 0x5A e)
 
-pub escape-byte-short : (b : ℕ) → length (escape-byte b) ≤ 2
-unfolding escape-byte
-escape-byte-short b = short (eqb b 0xA5) (eqb b 0x5A)
-  where
-    short : (x y : Bool) → length (cond x (0x5A ∷ 0x00 ∷ []) (cond y (0x5A ∷ 0x5A ∷ []) (b ∷ []))) ≤ 2
-    short true y = omega arith
-    short false true = omega arith
-    short false false = omega arith
-
 -- a packet's length, field by field
 pub fields-length : (k n : ℕ) (d : List ℕ) (s : ℕ) → length (fields k n d s) ≡ 1 + length (escape-byte k) + length (escape-byte n) + length (escape d) + length (escape-byte s)
 unfolding fields

@@ -1,7 +1,7 @@
 -- What the reply reader is to answer.
 use Prim.Native.Nat.{ℕ, suc, _+_}
 use mathlib.Core.Bool.{Bool, true, false, cond, _||_, _&&_}
-use mathlib.Core.List.{List, [], _∷_}
+use mathlib.Core.List.{List, [], _∷_, _++_}
 use lib.ListN.{length, getD, take, drop}
 use lib.Dec.{leb, eqb}
 use Rattle.packet.specs.Answer.{Answer, refused, accepted, number}
@@ -37,6 +37,10 @@ payload-at at (m ∷ bytes) =
     (cond (eqb (getD bytes m 0) (checksum (0x01 ∷ m ∷ take m bytes)))
     (accepted (record { response = 0x01; start = at + 1; count = m; end = at + 1 + m + 1 }))
     (refused 11))
+
+-- "A good read answers 01, m, m data bytes, and the sum of all these modulo 256."
+unfoldable pub success : List ℕ → List ℕ
+success bytes = 0x01 ∷ length bytes ∷ bytes ++ checksum (0x01 ∷ length bytes ∷ bytes) ∷ []
 
 -- only a read's success has more than its response
 unfoldable pub after-response : Access → ℕ → ℕ → List ℕ → Answer Reply
