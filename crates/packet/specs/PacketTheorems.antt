@@ -50,6 +50,7 @@ free-byte b = by-cases (eqb b 0xA5) refl (eqb b 0x5A) refl
   where
     pair : (y : ℕ) → (y ≡ 0xA5 → ⊥) → StartFree (0x5A ∷ y ∷ [])
     pair y h = free-cons 0x5A (y ∷ []) (omega arith) (free-cons y [] h free-nil)
+
     by-cases : (x : Bool) → eqb b 0xA5 ≡ x → (y : Bool) → eqb b 0x5A ≡ y → StartFree (escape-byte b)
     by-cases true e y f = rw (escape-start b (eqb-true b 0xA5 e)) (pair 0x00 (omega arith))
     by-cases false e true f = rw (escape-escape b (eqb-true b 0x5A f)) (pair 0x5A (omega arith))
@@ -99,8 +100,8 @@ packet-determines id id′ access access′ bytes bytes′ e =
       command .0,
       command .1,
       sym (take-at bytes (s ∷ []) (length bytes) refl)
-      ∙ ap (λ (x : List ℕ). take (length bytes) x) (tail-eq-of-cons-eq rest)
-      ∙ take-at bytes′ (s′ ∷ []) (length bytes) (sym count),
+          ∙ ap (λ (x : List ℕ). take (length bytes) x) (tail-eq-of-cons-eq rest)
+          ∙ take-at bytes′ (s′ ∷ []) (length bytes) (sym count),
     )
 
 -- ---- "Its longest output is 516 bytes (255 data; the length FF needs no escape)."
