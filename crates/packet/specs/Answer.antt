@@ -20,7 +20,7 @@ use Rattle.packet.specs.declared.Refusal.the-variants.{
   NothingToResend,
 }
 
--- 01, "Refusal numbers"
+-- document 01, "Refusal numbers"
 abbrev pub number : Refusal → ℕ
 number OutputTooShort = 1
 number DataTooLong = 2

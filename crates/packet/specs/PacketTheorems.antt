@@ -104,7 +104,7 @@ packet-determines id id′ access access′ bytes bytes′ e =
           ∙ take-at bytes′ (s′ ∷ []) (length bytes) (sym count),
     )
 
--- ---- "Its longest output is 516 bytes (255 data; the length FF needs no escape)."
+-- ---- no packet is longer than 516 bytes: with 255 data bytes the length itself needs no escape
 
 escape-byte-short : (b : ℕ) → length (escape-byte b) ≤ 2
 unfolding escape-byte

@@ -1,4 +1,4 @@
--- What the reply reader is to answer.
+-- What the reply reader is to answer: document 01, "Refusal numbers".
 use Prim.Native.Nat.{ℕ, suc, _+_}
 use mathlib.Core.Bool.{Bool, true, false, cond, _||_, _&&_}
 use mathlib.Core.List.{List, [], _∷_, _++_}
@@ -21,7 +21,7 @@ unfoldable pub dummies : List ℕ → ℕ
 dummies [] = 0
 dummies (b ∷ bs) = cond (eqb b 0xFF) (suc (dummies bs)) 0
 
--- "reserved response (00, 06, 09 to FE)"
+-- the responses that no controller gives
 abbrev pub reserved : ℕ → Bool
 reserved b = eqb b 0x00 || eqb b 0x06 || (leb 0x09 b && leb b 0xFE)
 
@@ -38,7 +38,7 @@ payload-at at (m ∷ bytes) =
     (accepted (record { response = 0x01; start = at + 1; count = m; end = at + 1 + m + 1 }))
     (refused 11))
 
--- "A good read answers 01, m, m data bytes, and the sum of all these modulo 256."
+-- the whole reply to a read that succeeds
 unfoldable pub success : List ℕ → List ℕ
 success bytes = 0x01 ∷ length bytes ∷ bytes ++ checksum (0x01 ∷ length bytes ∷ bytes) ∷ []
 
@@ -52,6 +52,6 @@ unfoldable pub reply-at : Access → ℕ → List ℕ → Answer Reply
 reply-at asked at [] = refused 12
 reply-at asked at (response ∷ bytes) = cond (reserved response) (refused 11) (after-response asked response (at + 1) bytes)
 
--- "It skips leading 0xFF, then tells the response, the data and where the reply ends; bytes after are not judged."
+-- the reply after the leading dummies; whatever follows it does not matter
 abbrev pub reply : Access → List ℕ → Answer Reply
 reply asked bytes = reply-at asked (dummies bytes) (drop (dummies bytes) bytes)

@@ -1,4 +1,4 @@
--- What the packet writer is to do.
+-- What the packet writer is to do: document 01, "Refusal numbers".
 use Prim.Native.Nat.{ℕ, _≤_}
 use mathlib.Core.Path.{_≡_}
 use mathlib.Core.Bool.{cond}

@@ -8,7 +8,7 @@ ghost use lib.Seq.{sets};
 ghost use Rattle.packet.specs.Packet.{command-byte, escape-byte, escape, fields};
 ghost use Rattle.packet.specs.Writer.{written, answer, length-of, bytes-of, overwritten};
 
-// Whether a command writes a register or reads it. 01: its way.
+// Whether a command writes a register or reads it: document 01's "way".
 pub enum Access {
     Write,
     Read,
