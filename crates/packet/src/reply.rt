@@ -1,6 +1,6 @@
 // The reply reader.
 use crate::Refusal;
-use crate::checksum::checksum;
+use crate::sum::checksum;
 use crate::writer::Access;
 ghost use mathlib.Core.Path.{_≡_};
 ghost use Prim.Native.Nat.{_≤_};

@@ -1,6 +1,6 @@
 // The packet writer.
 use crate::Refusal;
-use crate::checksum::checksum;
+use crate::sum::checksum;
 ghost use mathlib.Core.Path.{_≡_};
 ghost use Prim.Native.Nat.{_+_, _≤_};
 ghost use lib.ListN.{length};
