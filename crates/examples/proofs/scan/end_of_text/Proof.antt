@@ -1,17 +1,20 @@
-use Prim.Native.Nat.{_≤_, _-_}
+use Prim.Native.Nat.{_≤_}
 use lib.ListN.{length}
 use borrow.Author.Needs.{needs}
-use Rattle.examples.proofs.writer.untouched.Statement.{statement}
-use Rattle.examples.proofs.writer.untouched.Tie as tie
+use Rattle.examples.proofs.scan.end_of_text.Statement.{statement}
+use Rattle.examples.proofs.scan.end_of_text.Tie as tie
 
 abbrev Inv-loop : tie.InvT-loop
-Inv-loop s i₀ i = i ≤ length s
+Inv-loop s e₀ e = e ≤ length s
 
 abbrev μ-loop : tie.MeasureT-loop
-μ-loop s i₀ i = length s - i
+μ-loop s e₀ e = e
 
 loop-holds : tie.Need-loop-holds Inv-loop μ-loop
 loop-holds c = search needs
+
+sub-if1 : tie.Need-sub-if1 Inv-loop μ-loop
+sub-if1 c = search needs
 
 shared-slice-read-if1 : tie.Need-shared-slice-read-if1 Inv-loop μ-loop
 shared-slice-read-if1 c = search needs
@@ -19,8 +22,8 @@ shared-slice-read-if1 c = search needs
 returns : tie.Need-returns Inv-loop μ-loop
 returns c = search needs
 
-add-i : tie.Need-add-i Inv-loop μ-loop
-add-i c = search needs
+sub-e : tie.Need-sub-e Inv-loop μ-loop
+sub-e c = search needs
 
 loop-less : tie.Need-loop-less Inv-loop μ-loop
 loop-less c = search needs
@@ -31,16 +34,17 @@ loop-again c = search needs
 returns-2 : tie.Need-returns-2 Inv-loop μ-loop
 returns-2 c = search needs
 
-pub untouched-spec : {M : Type 1} → statement M
-untouched-spec =
+pub end-of-text-spec : {M : Type 1} → statement M
+end-of-text-spec =
     tie.close
     (tie.spec
     Inv-loop
     μ-loop
     loop-holds
+    sub-if1
     shared-slice-read-if1
     returns
-    add-i
+    sub-e
     loop-less
     loop-again
     returns-2)

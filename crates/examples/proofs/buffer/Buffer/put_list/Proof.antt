@@ -1,0 +1,46 @@
+use Prim.Native.Nat.{_≤_, _-_}
+use lib.ListN.{length}
+use borrow.Author.Needs.{needs}
+use Rattle.examples.proofs.buffer.Buffer.put_list.Statement.{statement}
+use Rattle.examples.proofs.buffer.Buffer.put_list.Tie as tie
+
+abbrev Inv-loop : tie.InvT-loop
+Inv-loop s buffer₀ i₀ buffer i = i ≤ length s
+
+abbrev μ-loop : tie.MeasureT-loop
+μ-loop s buffer₀ i₀ buffer i = length s - i
+
+loop-holds : tie.Need-loop-holds Inv-loop μ-loop
+loop-holds c = search needs
+
+shared-slice-read-put-item : tie.Need-shared-slice-read-put-item Inv-loop μ-loop
+shared-slice-read-put-item c = search needs
+
+put-item-requires : tie.Need-put-item-requires Inv-loop μ-loop
+put-item-requires c κs = search needs
+
+add-i : tie.Need-add-i Inv-loop μ-loop
+add-i c = search needs
+
+loop-less : tie.Need-loop-less Inv-loop μ-loop
+loop-less c = search needs
+
+loop-again : tie.Need-loop-again Inv-loop μ-loop
+loop-again c = search needs
+
+returns : tie.Need-returns Inv-loop μ-loop
+returns c = search needs
+
+pub put-list-spec : {M : Type 1} → statement M
+put-list-spec =
+    tie.close
+    (tie.spec
+    Inv-loop
+    μ-loop
+    loop-holds
+    shared-slice-read-put-item
+    put-item-requires
+    add-i
+    loop-less
+    loop-again
+    returns)

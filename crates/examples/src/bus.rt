@@ -1,0 +1,99 @@
+// The calls that send bytes to the controller.
+use crate::buffer::Buffer;
+use crate::calls::Answered;
+use crate::packets;
+use crate::packets::Way;
+use crate::scan;
+use crate::state::State;
+use controller::Controller;
+use packet::Access;
+use packet::Reply;
+use packet::ReplyRead;
+
+// The controller after some bytes, and what it sent meanwhile.
+struct Passed {
+    controller: Controller,
+    out: Buffer,
+}
+
+fn pass(start: Controller, bytes: &[u8]) -> Passed {
+    let mut controller = start;
+    let mut out = Buffer::new();
+    let mut i: usize = 0;
+    while i < bytes.len() {
+        let one = controller.exchange(bytes[i]);
+        let next = one.controller;
+        controller = next;
+        out = out.put(one.out);
+        i += 1;
+    }
+    Passed { controller, out }
+}
+
+fn pass_buffer(state: State, given: Buffer) -> Passed {
+    let controller = state.controller;
+    let bytes = given.bytes;
+    let count = given.len;
+    pass(controller, scan::part(&bytes, 0, count))
+}
+
+fn unreadable(state: State) -> Answered {
+    Answered {
+        state,
+        answer: Buffer::new(),
+    }
+}
+
+// bus BYTES
+pub fn bus(state: State, s: &[u8]) -> Answered {
+    let read = scan::read_bytes(s);
+    if read.end < s.len() {
+        return unreadable(state);
+    }
+    let passed = pass_buffer(state, read.buffer);
+    let controller = passed.controller;
+    let bytes = passed.out.bytes;
+    let count = passed.out.len;
+    Answered {
+        state: State { controller },
+        answer: Buffer::new().put_list(scan::part(&bytes, 0, count)),
+    }
+}
+
+// exchange W|R BYTES
+pub fn exchange(state: State, arguments: &[u8]) -> Answered {
+    let Way::Of(asked) = packets::read_way(scan::word(arguments)) else {
+        return unreadable(state);
+    };
+    let s = scan::after_word(arguments);
+    let read = scan::read_bytes(s);
+    if read.end < s.len() {
+        return unreadable(state);
+    }
+    let passed = pass_buffer(state, read.buffer);
+    let controller = passed.controller;
+    Answered {
+        state: State { controller },
+        answer: reply_in(asked, passed.out),
+    }
+}
+
+// The reply among the bytes that the controller sent.
+fn reply_in(asked: Access, sent: Buffer) -> Buffer {
+    let bytes = sent.bytes;
+    let count = sent.len;
+    let s = scan::part(&bytes, 0, count);
+    match packet::read_reply(asked, s) {
+        ReplyRead::Whole(r) => told(r, s),
+        ReplyRead::Refused(r) => packets::refusal(r.number()),
+    }
+}
+
+fn told(r: Reply, s: &[u8]) -> Buffer {
+    let answer = packets::response(r);
+    let found = packets::found(r, s);
+    if found.len() == 0 {
+        return answer;
+    }
+    answer.put_all(b", data ").put_list(found)
+}

@@ -1,0 +1,51 @@
+// The calls that a line can ask for. Each renders its answer; an empty answer says that the call cannot be read.
+use crate::buffer::Buffer;
+use crate::bus;
+use crate::held;
+use crate::packets;
+use crate::scan;
+use crate::state::State;
+
+// What a call answers, and the state after it.
+pub struct Answered {
+    pub state: State,
+    pub answer: Buffer,
+}
+
+// A call, from the state of the line before or, behind the word fresh, from the first one.
+pub fn run(state: State, call: &[u8]) -> Answered {
+    if check::same(scan::word(call), b"fresh") {
+        return named(State::fresh(), scan::after_word(call));
+    }
+    named(state, call)
+}
+
+// The call that the first word names.
+fn named(state: State, call: &[u8]) -> Answered {
+    let name = scan::word(call);
+    let arguments = scan::after_word(call);
+    if check::same(name, b"bus") {
+        return bus::bus(state, arguments);
+    }
+    if check::same(name, b"exchange") {
+        return bus::exchange(state, arguments);
+    }
+    Answered {
+        state,
+        answer: told(state, name, arguments),
+    }
+}
+
+// The calls that leave the state as it is.
+fn told(state: State, name: &[u8], arguments: &[u8]) -> Buffer {
+    if check::same(name, b"held") {
+        return held::held(state, arguments);
+    }
+    if check::same(name, b"write") {
+        return packets::write(arguments);
+    }
+    if check::same(name, b"reply") {
+        return packets::reply(arguments);
+    }
+    Buffer::new()
+}
