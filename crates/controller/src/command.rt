@@ -70,7 +70,8 @@ fn lookup_id(id: u8) -> Lookup
     }
 }
 
-fn access(command: u8) -> Access
+// Whether a command byte writes or reads.
+pub fn access(command: u8) -> Access
     ensures { λ r. ⌜ r ≡ spec.access command ⌝ }
 {
     if command % 2 == 1 {

@@ -11,6 +11,7 @@ pub use command::Lookup;
 pub use command::Outgoing;
 pub use command::Performed;
 pub use command::Register;
+pub use command::access;
 pub use command::perform;
 pub use settings::Area;
 pub use settings::Flag;

@@ -140,7 +140,7 @@ impl Settings {
         }
     }
 
-    pub(crate) fn flagged(self, flag: Flag) -> Settings
+    pub fn flagged(self, flag: Flag) -> Settings
         ensures { λ r. ⌜ r ≡ spec.flagged self flag ⌝ }
     {
         let mut s = self;

@@ -1,0 +1,21 @@
+use borrow.Author.Needs.{needs}
+use Rattle.packet.proofs.Tests.{tests}
+use Rattle.cabbox.specs.Box.{sent}
+use Rattle.cabbox.proofs.obey.sent.Statement.{statement}
+use Rattle.cabbox.proofs.obey.sent.Tie as tie
+
+run-bytes-requires : tie.Need-run-bytes-requires
+run-bytes-requires c κs = search needs
+
+unsent-requires : tie.Need-unsent-requires
+unsent-requires c κs = search needs
+
+run-zeros-requires : tie.Need-run-zeros-requires
+run-zeros-requires c κs = search needs
+
+returns : tie.Need-returns
+unfolding sent
+returns c = search (needs, tests, c .run-zeros .ensures, c .before .unsent .ensures, c .before .before .run-bytes .ensures)
+
+pub sent-spec : {M : Type 1} → statement M
+sent-spec = tie.close (tie.spec run-bytes-requires unsent-requires run-zeros-requires returns)

@@ -1,0 +1,38 @@
+use native.Mathlib.Omega.{arith}
+use mathlib.Core.Path.{_≡_, sym, _∙_}
+use lib.Seq.{length-take-le}
+use lib.ListN.{length}
+use borrow.Author.Needs.{needs}
+use Rattle.link.proofs.decoder.encodes_to.Statement.{statement}
+use Rattle.link.proofs.decoder.encodes_to.Tie as tie
+
+encode-requires : tie.Need-encode-requires
+encode-requires c κs = search needs
+
+array-share-prefix-b : tie.Need-array-share-prefix-b
+array-share-prefix-b c =
+    let e = c .before .encode in
+    let long : length (e .result .bytes) ≡ 37 = search needs in
+    omega (arith, e .ensures .1 .1)
+
+slice-aggregate-same-bytes : tie.Need-slice-aggregate-same-bytes
+slice-aggregate-same-bytes c =
+    let e = c .before .before .encode in
+    let long : length (e .result .bytes) ≡ 37 = search needs in
+    sym (length-take-le (e .result .len) (e .result .bytes) (omega (arith, e .ensures .1 .1)))
+
+same-bytes-requires : tie.Need-same-bytes-requires
+same-bytes-requires c κs = search needs
+
+returns : tie.Need-returns
+returns c = c .same-bytes .ensures ∙ rw (c .before .before .before .encode .ensures .1 .0)
+
+pub encodes-to-spec : {M : Type 1} → statement M
+encodes-to-spec =
+    tie.close
+    (tie.spec
+    encode-requires
+    array-share-prefix-b
+    slice-aggregate-same-bytes
+    same-bytes-requires
+    returns)

@@ -1,0 +1,28 @@
+use mathlib.Core.Path.{refl, _∙_}
+use borrow.Author.Tests.{le-ltb}
+use borrow.Author.Needs.{needs}
+use Rattle.packet.proofs.Loops.{sets-front}
+use Rattle.packet.proofs.Tests.{tests}
+use Rattle.link.specs.View.{placed}
+use Rattle.link.proofs.encoded.put_bytes.Statement.{statement}
+use Rattle.link.proofs.encoded.put_bytes.Tie as tie
+
+returns : tie.Need-returns
+unfolding placed
+returns c = search (needs, tests)
+
+store-requires : tie.Need-store-requires
+store-requires c κs = search needs
+
+same-length : tie.Need-same-length
+same-length c = search needs
+
+returns-2 : tie.Need-returns-2
+unfolding placed
+returns-2 c =
+    let a = c .before .before .before .before .before .before .before .args in
+    let room = c .before .before .before .before .if1 .left in
+    rw (le-ltb _ _ room) (refl, c .before .before .store .ensures ∙ sets-front (a .bytes .now) (a .out .now) room)
+
+pub put-bytes-spec : {M : Type 1} → statement M
+put-bytes-spec = tie.close (tie.spec returns store-requires same-length returns-2)

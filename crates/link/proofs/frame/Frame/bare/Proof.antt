@@ -1,0 +1,19 @@
+use borrow.Author.Needs.{needs}
+use Rattle.packet.proofs.Tests.{tests}
+use Rattle.link.proofs.frame.Frame.bare.Statement.{statement}
+use Rattle.link.proofs.frame.Frame.bare.Tie as tie
+
+raise-requires : tie.Need-raise-requires
+raise-requires c κs = search needs
+
+fresh-requires : tie.Need-fresh-requires
+fresh-requires c κs = search needs
+
+settings-requires : tie.Need-settings-requires
+settings-requires c κs = search needs
+
+returns : tie.Need-returns
+returns c = search (needs, tests, c .settings .ensures, c .before .fresh .ensures, c .before .before .raise .ensures)
+
+pub bare-spec : {M : Type 1} → statement M
+bare-spec = tie.close (tie.spec raise-requires fresh-requires settings-requires returns)

@@ -1,0 +1,40 @@
+-- What private functions do on the way: definitions that no public contract cites.
+use Prim.Native.Nat.{ℕ, _+_}
+use mathlib.Core.Bool.{Bool, true, false, cond}
+use mathlib.Core.List.{List, [], _∷_, _++_}
+use mathlib.Core.Option.{Option, none, some}
+use lib.ListN.{length}
+use lib.Seq.{sets}
+use Rattle.number.specs.Number.{word-bytes}
+use Rattle.controller.specs.declared.settings.Settings.{Settings}
+use Rattle.controller.specs.Commands.{heater-bytes}
+use Rattle.link.specs.declared.encoded.Encoded.{Encoded}
+use Rattle.link.specs.Frame.{Frame, opening, welcome, order, ack, refuse, short-enough, allowed}
+
+-- a block's first nine bytes
+abbrev pub register-bytes : Settings → List ℕ
+register-bytes σ =
+    word-bytes (σ .backlight)
+    ++ (σ .master ∷ σ .park ∷ σ .splash ∷ σ .strength ∷ [])
+    ++ heater-bytes (σ .heater)
+
+-- with bytes behind those that it has
+unfoldable pub pushed : Encoded → List ℕ → Encoded
+pushed e bytes = record { bytes = sets (e .bytes) (e .len) bytes; len = e .len + length bytes }
+
+-- whether a struct has room for a frame's data
+abbrev pub short : Frame → Bool
+short (opening s) = true
+short (welcome s σ) = true
+short (order s n c) = short-enough c
+short (ack s k) = true
+short (refuse s r) = true
+
+-- what a struct can hold of what was read; the rest is not allowed anyway
+abbrev pub held : Option Frame → Option Frame
+held none = none
+held (some f) = cond (short f) (some f) none
+
+abbrev pub allowed-of : Option Frame → Bool
+allowed-of none = false
+allowed-of (some f) = allowed f

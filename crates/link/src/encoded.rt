@@ -1,0 +1,88 @@
+// A frame as bytes, and how it is built up.
+use crate::store::store;
+use number::high;
+use number::low;
+use packet::Refusal;
+use packet::Written;
+ghost use mathlib.Core.Path.{_≡_};
+ghost use mathlib.Core.List.{[], _∷_};
+ghost use Prim.Native.Nat.{_+_, _≤_};
+ghost use lib.ListN.{length};
+ghost use Rattle.number.specs.Number.{word-bytes};
+ghost use Rattle.packet.specs.Writer as writer;
+ghost use Rattle.link.specs.Frame.{field as field-of};
+ghost use Rattle.link.specs.Steps as steps;
+ghost use Rattle.link.specs.View as view;
+
+// The longest frame: WELCOME.
+pub const FRAME_LIMIT: usize = 37;
+
+// The frame is the first len bytes.
+pub struct Encoded {
+    pub bytes: [u8; FRAME_LIMIT],
+    pub len: usize,
+}
+
+impl Encoded {
+    pub(crate) fn empty() -> Encoded
+        ensures { λ r. ⌜ r ≡ view.encoded [] ⌝ }
+    {
+        Encoded {
+            bytes: [0; FRAME_LIMIT],
+            len: 0,
+        }
+    }
+
+    pub(crate) fn push(self, bytes: &[u8]) -> Encoded
+        requires { ⌜ self .len + length (now bytes) ≤ view.frame-limit ⌝ }
+        ensures { λ r. ⌜ r ≡ steps.pushed self (now (bytes .entry)) ⌝ }
+    {
+        let mut array = self.bytes;
+        let at = self.len;
+        store(bytes, &mut array, at);
+        Encoded {
+            bytes: array,
+            len: at + bytes.len(),
+        }
+    }
+
+    // A field's tag and the length of its contents.
+    pub(crate) fn header(self, tag: u8, len: u16) -> Encoded
+        requires { ⌜ self .len + 3 ≤ view.frame-limit ⌝ }
+        ensures { λ r. ⌜ r ≡ steps.pushed self (tag ∷ word-bytes len) ⌝ }
+    {
+        let b = [tag, low(len), high(len)];
+        self.push(&b)
+    }
+
+    pub(crate) fn field(self, tag: u8, contents: &[u8]) -> Encoded
+        requires { ⌜ self .len + 3 + length (now contents) ≤ view.frame-limit ⌝ }
+        ensures { λ r. ⌜ r ≡ steps.pushed self (field-of tag (now (contents .entry))) ⌝ }
+    {
+        self.header(tag, contents.len() as u16).push(contents)
+    }
+}
+
+fn put_bytes(bytes: &[u8], out: &mut [u8]) -> Written
+    ensures answer { λ r. ⌜ writer.answer r ≡ writer.length-of (view.placed (now (bytes .entry)) (length (now (out .entry)))) ⌝ }
+    ensures output { λ r. ⌜ now (out .exit) ≡ writer.overwritten (writer.bytes-of (view.placed (now (bytes .entry)) (length (now (out .entry))))) (now (out .entry)) ⌝ }
+{
+    if out.len() < bytes.len() {
+        return Written::Refused(Refusal::OutputTooShort);
+    }
+    store(bytes, &mut *out, 0);
+    Written::Length(bytes.len())
+}
+
+// Writes a frame at the start of out. A refusal leaves out as it was.
+pub fn put(encoded: Encoded, out: &mut [u8]) -> Written
+    ensures answer { λ r. ⌜ writer.answer r ≡ writer.length-of (view.placed (view.bytes-of encoded) (length (now (out .entry)))) ⌝ }
+    ensures output { λ r. ⌜ now (out .exit) ≡ writer.overwritten (writer.bytes-of (view.placed (view.bytes-of encoded) (length (now (out .entry))))) (now (out .entry)) ⌝ }
+{
+    let bytes = encoded.bytes;
+    let len = encoded.len;
+    if FRAME_LIMIT < len {
+        return put_bytes(&bytes, &mut *out);
+    }
+    put_bytes(&bytes[..len], &mut *out)
+}

@@ -1,0 +1,137 @@
+// Frames to bytes.
+use crate::encoded::Encoded;
+use crate::frame::Ask;
+use crate::frame::Change;
+use crate::frame::DATA_LIMIT;
+use crate::frame::Frame;
+use crate::frame::Kind;
+use crate::frame::OrderNumber;
+use crate::frame::SessionId;
+use crate::settings::block;
+use crate::tag;
+use controller::Settings;
+use number::high;
+use number::low;
+ghost use mathlib.Core.Path.{_≡_};
+ghost use mathlib.Core.List.{_++_};
+ghost use Prim.Native.Nat.{_≤_};
+ghost use lib.ListN.{length};
+ghost use Rattle.number.specs.Number.{word-bytes, long-bytes as long-bytes-of};
+ghost use Rattle.link.specs.Frame as spec;
+ghost use Rattle.link.specs.Steps as steps;
+ghost use Rattle.link.specs.View as view;
+
+fn long_bytes(x: u32) -> [u8; 4]
+    ensures { λ r. ⌜ r ≡ long-bytes-of x ⌝ }
+{
+    [
+        (x % 256) as u8,
+        (x / 256 % 256) as u8,
+        (x / 65536 % 256) as u8,
+        (x / 16777216 % 256) as u8,
+    ]
+}
+
+// A session and an order's number or count.
+fn numbered(session: SessionId, number: OrderNumber) -> [u8; 6]
+    ensures { λ r. ⌜ r ≡ long-bytes-of (session .0) ++ word-bytes (number .0) ⌝ }
+{
+    let s = long_bytes(session.0);
+    let n = number.0;
+    [s[0], s[1], s[2], s[3], low(n), high(n)]
+}
+
+fn opening(session: SessionId) -> Encoded
+    ensures { λ r. ⌜ r ≡ view.encoded (spec.encode (spec.opening (session .0))) ⌝ }
+{
+    let s = long_bytes(session.0);
+    Encoded::empty().field(tag::OPENING, &s)
+}
+
+fn welcome(session: SessionId, settings: Settings) -> Encoded
+    ensures { λ r. ⌜ r ≡ view.encoded (spec.encode (spec.welcome (session .0) settings)) ⌝ }
+{
+    let s = long_bytes(session.0);
+    let b = block(settings);
+    Encoded::empty()
+        .field(tag::WELCOME, &s)
+        .field(tag::SETTINGS, &b)
+}
+
+fn command_field(e: Encoded, command: u8, bytes: &[u8]) -> Encoded
+    requires { ⌜ (e .len ≤ 9) × (length (now bytes) ≤ view.data-limit) ⌝ }
+    ensures { λ r. ⌜ r ≡ steps.pushed e (spec.change-field (spec.command command (now (bytes .entry)))) ⌝ }
+{
+    let k = [command];
+    e.header(tag::COMMAND, bytes.len() as u16 + 1)
+        .push(&k)
+        .push(bytes)
+}
+
+fn step_field(e: Encoded, tag: u8, step: u16) -> Encoded
+    requires { ⌜ e .len ≤ 9 ⌝ }
+    ensures { λ r. ⌜ r ≡ steps.pushed e (spec.field tag (word-bytes step)) ⌝ }
+{
+    let b = [low(step), high(step)];
+    e.field(tag, &b)
+}
+
+fn change_field(e: Encoded, change: Change) -> Encoded
+    requires { ⌜ e .len ≤ 9 ⌝ }
+    ensures { λ r. ⌜ r ≡ steps.pushed e (spec.change-field (view.asked change)) ⌝ }
+{
+    let ask = change.ask;
+    match ask {
+        Ask::Command(command) => {
+            let body = change.body;
+            let count = change.count as usize;
+            if DATA_LIMIT < count {
+                return command_field(e, command, &body);
+            }
+            command_field(e, command, &body[..count])
+        }
+        Ask::Raise(step) => step_field(e, tag::RAISE, step),
+        Ask::Lower(step) => step_field(e, tag::LOWER, step),
+    }
+}
+
+fn order(session: SessionId, number: OrderNumber, change: Change) -> Encoded
+    ensures { λ r. ⌜ r ≡ view.encoded (spec.encode (spec.order (session .0) (number .0) (view.asked change))) ⌝ }
+{
+    let b = numbered(session, number);
+    change_field(Encoded::empty().field(tag::ORDER, &b), change)
+}
+
+fn ack(session: SessionId, count: OrderNumber) -> Encoded
+    ensures { λ r. ⌜ r ≡ view.encoded (spec.encode (spec.ack (session .0) (count .0))) ⌝ }
+{
+    let b = numbered(session, count);
+    Encoded::empty().field(tag::ACK, &b)
+}
+
+fn refuse(session: SessionId, refusal: u8) -> Encoded
+    ensures { λ r. ⌜ r ≡ view.encoded (spec.encode (spec.refuse (session .0) refusal)) ⌝ }
+{
+    let s = long_bytes(session.0);
+    let b = [s[0], s[1], s[2], s[3], refusal];
+    Encoded::empty().field(tag::REFUSE, &b)
+}
+
+// A frame as bytes; the malformed one has none.
+pub fn encode(frame: Frame) -> Encoded
+    ensures whole { λ r. ⌜ r ≡ view.encoded (view.encoding-of (view.meaning frame)) ⌝ }
+    ensures bytes { λ r. ⌜ view.bytes-of r ≡ view.encoding-of (view.meaning frame) ⌝ }
+    ensures short { λ r. ⌜ r .len ≤ view.frame-limit ⌝ }
+{
+    let kind = frame.kind;
+    let session = frame.session;
+    let number = frame.number;
+    match kind {
+        Kind::Malformed => Encoded::empty(),
+        Kind::Opening => opening(session),
+        Kind::Welcome => welcome(session, frame.settings),
+        Kind::Order => order(session, number, frame.change),
+        Kind::Ack => ack(session, number),
+        Kind::Refuse(refusal) => refuse(session, refusal),
+    }
+}
