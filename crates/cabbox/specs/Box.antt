@@ -9,6 +9,7 @@ use Rattle.controller.specs.declared.bus.Controller.{Controller}
 use Rattle.controller.specs.Bus as bus
 use Rattle.controller.specs.Run.{run}
 use Rattle.link.specs.Frame.{Change, Frame, opening, welcome, order, ack, refuse, decode}
+use Rattle.link.specs.View.{frame-limit}
 use Rattle.order.specs.Apply.{order-packet}
 use Rattle.cabbox.specs.declared.Cab.{Cab}
 
@@ -95,5 +96,5 @@ received c (some (refuse s r)) = refused c 0 4
 -- a frame in, with `room` bytes lent for the answer
 unfoldable pub frame-in : Cab → List ℕ → ℕ → Turn
 frame-in c bytes room =
-    cond (ltb room 37) (record { cab = c; refusal = some 1; frame = none })
+    cond (ltb room frame-limit) (record { cab = c; refusal = some 1; frame = none })
     (received c (decode bytes))

@@ -16,7 +16,7 @@ ghost use lib.ListN.{length};
 ghost use Rattle.packet.specs.Answer.{number};
 ghost use Rattle.packet.specs.Writer.{overwritten};
 ghost use Prim.Native.Nat.{_≤_};
-ghost use Rattle.link.specs.View.{asked, meaning, encoding-of};
+ghost use Rattle.link.specs.View.{asked, meaning, encoding-of, frame-limit};
 ghost use Rattle.cabbox.specs.Box as spec;
 ghost use Rattle.cabbox.specs.View as view;
 
@@ -202,7 +202,7 @@ impl Cab {
 
 // Writes a turn's frame.
 fn send(turn: Turn, out: &mut [u8]) -> Answered
-    requires { ⌜ 37 ≤ length (now out) ⌝ }
+    requires { ⌜ frame-limit ≤ length (now out) ⌝ }
     ensures { λ r. ⌜ view.Sent (view.turn turn) r (now (out .entry)) (now (out .exit)) ⌝ }
 {
     let cab = turn.cab;
@@ -213,7 +213,7 @@ fn send(turn: Turn, out: &mut [u8]) -> Answered
 }
 
 fn write(frame: Frame, out: &mut [u8]) -> usize
-    requires { ⌜ 37 ≤ length (now out) ⌝ }
+    requires { ⌜ frame-limit ≤ length (now out) ⌝ }
     ensures { λ r. ⌜ (r ≡ length (encoding-of (meaning frame))) × (now (out .exit) ≡ overwritten (encoding-of (meaning frame)) (now (out .entry))) ⌝ }
 {
     match link::put(link::encode(frame), &mut *out) {
