@@ -4,14 +4,12 @@ use native.Mathlib.Omega.{arith}
 use mathlib.Core.Path.{_≡_}
 use mathlib.Core.List.{List, [], _∷_}
 use lib.ListN.{length, replicate, replicate-append-replicate}
-use borrow.Author.Tests.{le-ltb}
-use Rattle.packet.specs.Answer.{accepted}
 use Rattle.controller.specs.declared.bus.Controller.{Controller}
 use Rattle.controller.specs.Bus.{exchange}
 use Rattle.controller.specs.Run.{run, run-append}
 use Rattle.link.specs.declared.frame.Ask.{Ask}
 use Rattle.link.specs.declared.frame.Ask.the-variants.{Command, Raise, Lower}
-use Rattle.link.specs.View.{asked-as, placed}
+use Rattle.link.specs.View.{asked-as}
 use Rattle.controller.specs.Settles.{Ready}
 use Rattle.link.specs.Frame.{Change}
 use Rattle.order.specs.Apply.{command-data, apply}
@@ -22,10 +20,6 @@ use Rattle.cabbox.specs.Box.{sent, obeyed}
 pub zeros-more : (c : Controller) (n : ℕ) → run c (replicate (n + 1) 0x00) ≡ exchange (run c (replicate n 0x00)) 0x00 .controller
 unfolding run
 zeros-more c n = rw (← replicate-append-replicate {A = ℕ} n 1 0x00, run-append (replicate n 0x00) (0x00 ∷ []) c)
-
-pub placed-whole : (bytes : List ℕ) (room : ℕ) → length bytes ≤ room → placed bytes room ≡ accepted bytes
-unfolding placed
-placed-whole bytes room h = rw (le-ltb room (length bytes) h)
 
 -- an order's command has few data bytes
 pub data-short : (level : ℕ) (ask : Ask) (d : List ℕ) → length d ≤ 16 → length (command-data level (asked-as ask d)) ≤ 255

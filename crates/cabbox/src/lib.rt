@@ -10,7 +10,6 @@ use link::OrderNumber;
 use link::SessionId;
 use obey::obey;
 use packet::Refusal;
-use packet::Written;
 ghost use mathlib.Core.Path.{_≡_};
 ghost use lib.ListN.{length};
 ghost use Rattle.packet.specs.Answer.{number};
@@ -216,8 +215,8 @@ fn write(frame: Frame, out: &mut [u8]) -> usize
     requires { ⌜ frame-limit ≤ length (now out) ⌝ }
     ensures { λ r. ⌜ (r ≡ length (encoding-of (meaning frame))) × (now (out .exit) ≡ overwritten (encoding-of (meaning frame)) (now (out .entry))) ⌝ }
 {
-    match link::put(link::encode(frame), &mut *out) {
-        Written::Length(len) => len,
-        Written::Refused(_) => 0,
-    }
+    let encoded = link::encode(frame);
+    let len = encoded.len;
+    link::put(encoded, &mut *out);
+    len
 }

@@ -8,7 +8,8 @@ use mathlib.Core.List.{List}
 use mathlib.Core.Option.{Option, none, some}
 use lib.ListN.{length, drop, replicate, length-take}
 use lib.Seq.{take-append-seam}
-use borrow.Author.Tests.{leb-true, le-leb}
+use borrow.Author.Tests.{leb-true, le-leb, le-ltb}
+use Rattle.packet.specs.Answer.{accepted}
 use Rattle.controller.specs.declared.settings.Settings.{Settings}
 use Rattle.link.specs.declared.frame.Ask.{Ask}
 use Rattle.link.specs.declared.frame.Ask.the-variants.{Command, Raise, Lower}
@@ -19,7 +20,7 @@ use Rattle.link.specs.declared.frame.Kind.the-variants.{Malformed, Openi
 use Rattle.link.specs.BlockTheorems.{block-long}
 use Rattle.link.specs.Frame.{Change, command, raise, lower, Frame, opening, welcome, order, ack, refuse, change-field, encode, short-enough}
 use Rattle.link.specs.Steps.{short}
-use Rattle.link.specs.View.{frame-limit, data-limit, asked-as, asked, meaning-as, meaning, change-of, frame-of, encoding-of}
+use Rattle.link.specs.View.{frame-limit, data-limit, asked-as, asked, meaning-as, meaning, change-of, frame-of, encoding-of, placed}
 
 -- ---- lengths
 
@@ -35,6 +36,11 @@ encode-length (welcome s σ) e = omega (arith, block-long σ)
 encode-length (order s n c) e = omega (arith, change-length c e)
 encode-length (ack s k) e = omega arith
 encode-length (refuse s r) e = omega arith
+
+-- enough room for all
+pub placed-whole : (bytes : List ℕ) (room : ℕ) → length bytes ≤ room → placed bytes room ≡ accepted bytes
+unfolding placed
+placed-whole bytes room h = rw (le-ltb room (length bytes) h)
 
 -- ---- what a struct holds is short, since its body is
 
@@ -59,7 +65,7 @@ meaning-length f e = meaning-as-length (f .kind) (f .session .0) (f .number .0) 
 
 -- ---- the struct that the code makes of a frame means that frame
 
-asked-change-of : (c : Change) → asked (change-of c) ≡ c
+pub asked-change-of : (c : Change) → asked (change-of c) ≡ c
 asked-change-of (command k d) = ap (command k) (take-append-seam d (drop (length d) (replicate data-limit 0)))
 asked-change-of (raise n) = refl
 asked-change-of (lower n) = refl

@@ -1,0 +1,19 @@
+use Rattle.packet.proofs.Tests.{tests}
+use borrow.Author.Needs.{needs}
+use Rattle.office.proofs.Office.at_start.Statement.{statement}
+use Rattle.office.proofs.Office.at_start.Tie as tie
+
+raise-requires : tie.Need-raise-requires
+raise-requires c κs = search needs
+
+fresh-requires : tie.Need-fresh-requires
+fresh-requires c κs = search needs
+
+settings-requires : tie.Need-settings-requires
+settings-requires c κs = search needs
+
+returns : tie.Need-returns
+returns c = search (needs, tests, c .settings .ensures, c .before .fresh .ensures, c .before .before .raise .ensures)
+
+pub at-start-spec : {M : Type 1} → statement M
+at-start-spec = tie.close (tie.spec raise-requires fresh-requires settings-requires returns)

@@ -1,0 +1,75 @@
+use mathlib.Core.Path.{_≡_, refl, ap, _∙_}
+use mathlib.Core.Option.{some}
+use Rattle.office.specs.declared.Turned.{Turned}
+use Rattle.office.specs.declared.Verdict.the-variants.{Accepted}
+use lib.ListN.{length}
+use borrow.Author.Tests.{lt-ltb, le-ltb, eq-eqb, ne-eqb}
+use Rattle.packet.specs.declared.Refusal.the-variants.{OutputTooShort, WrongSession}
+use Rattle.link.specs.Frame.{opening, encode}
+use Rattle.link.specs.View.{encoding-of, meaning}
+use Rattle.link.specs.declared.frame.Frame.{Frame as FrameStruct}
+use Rattle.packet.specs.Writer.{overwritten}
+use Rattle.office.specs.Office.{office-of, open-session, empty-window}
+use Rattle.office.specs.declared.Stage.the-variants.{Opening}
+use Rattle.controller.specs.Settings.{fresh}
+use Rattle.office.proofs.Turns.{gives-refusal, gives-frame}
+use Rattle.packet.proofs.Tests.{tests}
+use Rattle.office.specs.Office.{open-session}
+use borrow.Author.Needs.{needs}
+use Rattle.office.proofs.Office.open.Statement.{statement}
+use Rattle.office.proofs.Office.open.Tie as tie
+
+refused-requires : tie.Need-refused-requires
+refused-requires c κs = search needs
+
+returns : tie.Need-returns
+unfolding open-session
+returns c =
+    let a = c .before .before .before .before .args in
+    gives-refusal (open-session (a .self) (a .session .0) (length (a .out .now))) (a .self) WrongSession (c .refused .result) (a .out .now) (simp (eq-eqb _ _ (c .before .if1 .taken))) (c .refused .ensures)
+
+refused-requires-2 : tie.Need-refused-requires-2
+refused-requires-2 c κs = search needs
+
+returns-2 : tie.Need-returns-2
+unfolding open-session
+returns-2 c =
+    let a = c .before .before .before .before .before .args in
+    gives-refusal (open-session (a .self) (a .session .0) (length (a .out .now))) (a .self) OutputTooShort (c .refused2 .result) (a .out .now) (simp (ne-eqb _ _ (c .before .before .if1 .left), lt-ltb _ _ (c .before .if2 .taken))) (c .refused2 .ensures)
+
+at-start-requires : tie.Need-at-start-requires
+at-start-requires c κs = search needs
+
+opening-requires : tie.Need-opening-requires
+opening-requires c κs = search needs
+
+send-requires : tie.Need-send-requires
+send-requires c κs = search needs
+
+same-length : tie.Need-same-length
+same-length c = search needs
+
+returns-3 : tie.Need-returns-3
+unfolding open-session
+returns-3 c =
+    let a = c .before .before .before .before .before .before .before .before .before .before .args in
+    let frame-is : meaning (c .before .before .before .before .opening .result) ≡ some (opening (a .session .0)) = ap meaning (c .before .before .before .before .opening .ensures) in
+    let given : Turned = record { office = c .before .before .before .before .before .at-start .result; verdict = Accepted; len = c .before .before .send .result } in
+    gives-frame (open-session (a .self) (a .session .0) (length (a .out .now))) (office-of Opening (a .session .0) fresh 0 0 empty-window) (opening (a .session .0)) given (a .out .now) _
+    (simp (ne-eqb _ _ (c .before .before .before .before .before .before .before .if1 .left), le-ltb _ _ (c .before .before .before .before .before .before .if2 .left)))
+    (rw (c .before .before .before .before .before .at-start .ensures, c .before .before .send .ensures .0, frame-is))
+    (c .before .before .send .ensures .1 ∙ rw frame-is)
+
+pub open-spec : {M : Type 1} → statement M
+open-spec =
+    tie.close
+    (tie.spec
+    refused-requires
+    returns
+    refused-requires-2
+    returns-2
+    at-start-requires
+    opening-requires
+    send-requires
+    same-length
+    returns-3)
