@@ -1,5 +1,6 @@
 // The calls that send bytes to the controller.
 use crate::buffer::Buffer;
+use crate::calls;
 use crate::calls::Answered;
 use crate::packets;
 use crate::packets::Way;
@@ -37,43 +38,40 @@ fn pass_buffer(state: State, given: Buffer) -> Passed {
     pass(controller, scan::part(&bytes, 0, count))
 }
 
-fn unreadable(state: State) -> Answered {
-    Answered {
-        state,
-        answer: Buffer::new(),
-    }
-}
-
 // bus BYTES
 pub fn bus(state: State, s: &[u8]) -> Answered {
     let read = scan::read_bytes(s);
     if read.end < s.len() {
-        return unreadable(state);
+        return calls::unreadable(state);
     }
     let passed = pass_buffer(state, read.buffer);
     let controller = passed.controller;
-    let bytes = passed.out.bytes;
-    let count = passed.out.len;
     Answered {
-        state: State { controller },
-        answer: Buffer::new().put_list(scan::part(&bytes, 0, count)),
+        state: state.with_controller(controller),
+        answer: list(passed.out),
     }
+}
+
+fn list(sent: Buffer) -> Buffer {
+    let bytes = sent.bytes;
+    let count = sent.len;
+    Buffer::new().put_list(scan::part(&bytes, 0, count))
 }
 
 // exchange W|R BYTES
 pub fn exchange(state: State, arguments: &[u8]) -> Answered {
     let Way::Of(asked) = packets::read_way(scan::word(arguments)) else {
-        return unreadable(state);
+        return calls::unreadable(state);
     };
     let s = scan::after_word(arguments);
     let read = scan::read_bytes(s);
     if read.end < s.len() {
-        return unreadable(state);
+        return calls::unreadable(state);
     }
     let passed = pass_buffer(state, read.buffer);
     let controller = passed.controller;
     Answered {
-        state: State { controller },
+        state: state.with_controller(controller),
         answer: reply_in(asked, passed.out),
     }
 }

@@ -1,6 +1,8 @@
 // The calls that a line can ask for. Each renders its answer; an empty answer says that the call cannot be read.
 use crate::buffer::Buffer;
 use crate::bus;
+use crate::cab_box;
+use crate::frames;
 use crate::held;
 use crate::packets;
 use crate::scan;
@@ -10,6 +12,13 @@ use crate::state::State;
 pub struct Answered {
     pub state: State,
     pub answer: Buffer,
+}
+
+pub fn unreadable(state: State) -> Answered {
+    Answered {
+        state,
+        answer: Buffer::new(),
+    }
 }
 
 // A call, from the state of the line before or, behind the word fresh, from the first one.
@@ -30,6 +39,12 @@ fn named(state: State, call: &[u8]) -> Answered {
     if check::same(name, b"exchange") {
         return bus::exchange(state, arguments);
     }
+    if check::same(name, b"restart") {
+        return cab_box::restart(state, arguments);
+    }
+    if check::same(name, b"box") {
+        return cab_box::frame_in(state, arguments);
+    }
     Answered {
         state,
         answer: told(state, name, arguments),
@@ -39,13 +54,27 @@ fn named(state: State, call: &[u8]) -> Answered {
 // The calls that leave the state as it is.
 fn told(state: State, name: &[u8], arguments: &[u8]) -> Buffer {
     if check::same(name, b"held") {
-        return held::held(state, arguments);
+        return held::held(state.controller, arguments);
     }
+    if check::same(name, b"box-held") {
+        return held::held(state.cab.controller, arguments);
+    }
+    stateless(name, arguments)
+}
+
+// The calls that need no state.
+fn stateless(name: &[u8], arguments: &[u8]) -> Buffer {
     if check::same(name, b"write") {
         return packets::write(arguments);
     }
     if check::same(name, b"reply") {
         return packets::reply(arguments);
+    }
+    if check::same(name, b"encode") {
+        return frames::encode(arguments);
+    }
+    if check::same(name, b"decode") {
+        return frames::decode(arguments);
     }
     Buffer::new()
 }

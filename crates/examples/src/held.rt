@@ -1,15 +1,14 @@
-// The call that tells what the controller holds.
+// The calls that tell what a controller holds.
 use crate::buffer::Buffer;
-use crate::state::State;
 use controller::Area;
+use controller::Controller;
 use controller::HeaterDrive;
 use controller::Offsets;
 use controller::Settings;
 use controller::StatusBytes;
 
-// held REGISTER
-pub fn held(state: State, register: &[u8]) -> Buffer {
-    let controller = state.controller;
+// held REGISTER, or box-held REGISTER
+pub fn held(controller: Controller, register: &[u8]) -> Buffer {
     held_in(controller.settings(), register)
 }
 

@@ -2,7 +2,9 @@
 // it prints what came, and whether that is the text expected. A line goes on where the line before left the state.
 mod buffer;
 mod bus;
+mod cab_box;
 mod calls;
+mod frames;
 mod held;
 mod packets;
 mod scan;

@@ -14,7 +14,7 @@ pub enum Way {
 }
 
 // What a byte of a lent output holds before the call.
-const UNTOUCHED: u8 = 0xEE;
+pub const UNTOUCHED: u8 = 0xEE;
 
 pub fn read_way(s: &[u8]) -> Way {
     if check::same(s, b"W") {
@@ -104,7 +104,7 @@ fn untouched(s: &[u8]) -> usize {
     n
 }
 
-fn put_untouched(answer: Buffer, rest: &[u8]) -> Buffer {
+pub fn put_untouched(answer: Buffer, rest: &[u8]) -> Buffer {
     answer
         .put_all(b", ")
         .put_decimal(untouched(rest))

@@ -7,6 +7,16 @@ pub enum Byte {
     Invalid,
 }
 
+pub enum Short {
+    Of(u16),
+    Invalid,
+}
+
+pub enum Long {
+    Of(u32),
+    Invalid,
+}
+
 pub enum Number {
     Of(usize),
     Invalid,
@@ -108,13 +118,33 @@ pub fn read_decimal(s: &[u8]) -> Number {
         if 9 < d {
             return Number::Invalid;
         }
-        if 9999 < n {
+        if 999999999 < n {
             return Number::Invalid;
         }
         n = 10 * n + (d as usize);
         i += 1;
     }
     Number::Of(n)
+}
+
+pub fn read_short(s: &[u8]) -> Short {
+    let Number::Of(n) = read_decimal(s) else {
+        return Short::Invalid;
+    };
+    if 65535 < n {
+        return Short::Invalid;
+    }
+    Short::Of(n as u16)
+}
+
+pub fn read_long(s: &[u8]) -> Long {
+    let Number::Of(n) = read_decimal(s) else {
+        return Long::Invalid;
+    };
+    if 4294967295 < n {
+        return Long::Invalid;
+    }
+    Long::Of(n as u32)
 }
 
 // 16 where c is no digit.
