@@ -1,5 +1,5 @@
 -- The clauses of a call that may write a frame, from its turn.
-use mathlib.Core.Path.{_≡_, refl, ap}
+use mathlib.Core.Path.{_≡_, refl}
 use mathlib.Core.Bool.{true, false}
 use mathlib.Core.List.{List}
 use Prim.Native.Nat.{ℕ, _+_, _-_, _<_, _≤_}
@@ -13,7 +13,6 @@ use Rattle.link.specs.Frame.{Change, Frame, order, encode}
 use Rattle.office.specs.declared.Office.{Office}
 use Rattle.office.specs.declared.Received.{Received}
 use Rattle.office.specs.declared.Turned.{Turned}
-use Rattle.office.specs.declared.Verdict.{Verdict}
 use Rattle.office.specs.declared.Verdict.the-variants.{Accepted, Refused}
 use Rattle.office.specs.Office.{Turn, refused, wrote, silent, is-open, too-long, with-order, issue}
 use Rattle.office.specs.View.{refusal-of, bytes-written}

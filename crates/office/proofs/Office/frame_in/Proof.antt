@@ -1,4 +1,4 @@
-use mathlib.Core.Path.{_≡_, ap, sym, _∙_}
+use mathlib.Core.Path.{ap, sym, _∙_}
 use Rattle.link.specs.Frame.{decode}
 use Rattle.office.specs.Office.{received, welcomed, acknowledged}
 use Rattle.office.proofs.Turns.{takes-frame, takes-none}

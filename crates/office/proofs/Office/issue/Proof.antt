@@ -1,7 +1,7 @@
-use mathlib.Core.Path.{_≡_, ap, sym, _∙_}
+use mathlib.Core.Path.{ap, sym, _∙_}
 use lib.ListN.{length}
 use Prim.Native.Nat.{_+_}
-use borrow.Author.Tests.{lt-ltb, le-ltb, le-leb, lt-leb, eq-eqb, ne-eqb, not-true, not-false}
+use borrow.Author.Tests.{lt-ltb, le-ltb, le-leb, eq-eqb, ne-eqb, not-true, not-false}
 use Rattle.packet.specs.declared.Refusal.the-variants.{OutputTooShort, DataTooLong, WindowFull, OrderNumbersExhausted, OfficeNotOpen}
 use Rattle.link.specs.Frame.{order}
 use Rattle.link.specs.View.{asked-as, change-of}

@@ -1,20 +1,16 @@
-use mathlib.Core.Path.{_≡_, refl, ap, _∙_}
+use mathlib.Core.Path.{_≡_, ap, _∙_}
 use mathlib.Core.Option.{some}
 use Rattle.office.specs.declared.Turned.{Turned}
 use Rattle.office.specs.declared.Verdict.the-variants.{Accepted}
 use lib.ListN.{length}
 use borrow.Author.Tests.{lt-ltb, le-ltb, eq-eqb, ne-eqb}
 use Rattle.packet.specs.declared.Refusal.the-variants.{OutputTooShort, WrongSession}
-use Rattle.link.specs.Frame.{opening, encode}
-use Rattle.link.specs.View.{encoding-of, meaning}
-use Rattle.link.specs.declared.frame.Frame.{Frame as FrameStruct}
-use Rattle.packet.specs.Writer.{overwritten}
+use Rattle.link.specs.Frame.{opening}
+use Rattle.link.specs.View.{meaning}
 use Rattle.office.specs.Office.{office-of, open-session, empty-window}
 use Rattle.office.specs.declared.Stage.the-variants.{Opening}
 use Rattle.controller.specs.Settings.{fresh}
 use Rattle.office.proofs.Turns.{gives-refusal, gives-frame}
-use Rattle.packet.proofs.Tests.{tests}
-use Rattle.office.specs.Office.{open-session}
 use borrow.Author.Needs.{needs}
 use Rattle.office.proofs.Office.open.Statement.{statement}
 use Rattle.office.proofs.Office.open.Tie as tie

@@ -1,4 +1,4 @@
-use mathlib.Core.Path.{_≡_, ap}
+use mathlib.Core.Path.{ap}
 use Prim.Native.Nat.{_+_, _%_}
 use lib.ListN.{set}
 use Rattle.link.specs.View.{asked}
