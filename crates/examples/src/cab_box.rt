@@ -2,6 +2,8 @@
 use crate::buffer::Buffer;
 use crate::calls;
 use crate::calls::Answered;
+use crate::lent;
+use crate::lent::LENT;
 use crate::packets;
 use crate::packets::UNTOUCHED;
 use crate::scan;
@@ -10,14 +12,12 @@ use crate::scan::Number;
 use crate::state::State;
 use cabbox::Cab;
 use cabbox::Verdict;
-use link::FRAME_LIMIT;
 use link::SessionId;
 
-// What a frame in answers, and how many bytes it wrote.
+// What a frame in answers, and the box after it.
 struct Sent {
     cab: Cab,
     answer: Buffer,
-    len: usize,
 }
 
 // restart N
@@ -34,34 +34,20 @@ pub fn restart(state: State, s: &[u8]) -> Answered {
 // box BYTES, or box BYTES into N
 pub fn frame_in(state: State, s: &[u8]) -> Answered {
     let read = scan::read_bytes(s);
-    let end = read.end;
-    let rest = scan::part(s, end, s.len());
-    if rest.len() == 0 {
-        return told(state, read.buffer);
-    }
-    if check::same(scan::word(rest), b"into") {
-        return told_into(state, read.buffer, scan::after_word(rest));
-    }
-    calls::unreadable(state)
+    let at = read.end;
+    frame_in_to(state, read.buffer, scan::part(s, at, s.len()))
 }
 
-fn told(state: State, given: Buffer) -> Answered {
-    let mut lent = [UNTOUCHED; FRAME_LIMIT];
-    let cab = state.cab;
-    let sent = send(cab, given, &mut lent);
-    answered(state, sent)
-}
-
-fn told_into(state: State, given: Buffer, s: &[u8]) -> Answered {
-    let Number::Of(n) = scan::read_decimal(s) else {
+fn frame_in_to(state: State, given: Buffer, end: &[u8]) -> Answered {
+    let Number::Of(n) = lent::length(end) else {
         return calls::unreadable(state);
     };
-    if 100 < n {
+    if LENT < n {
         return calls::unreadable(state);
     }
-    let mut lent = [UNTOUCHED; 100];
+    let mut out = [UNTOUCHED; LENT];
     let cab = state.cab;
-    let sent = send_into(cab, given, &mut lent[0..n]);
+    let sent = send(cab, given, &mut out[0..n], end);
     answered(state, sent)
 }
 
@@ -74,29 +60,16 @@ fn answered(state: State, sent: Sent) -> Answered {
     }
 }
 
-fn send(cab: Cab, given: Buffer, lent: &mut [u8]) -> Sent {
+fn send(cab: Cab, given: Buffer, out: &mut [u8], end: &[u8]) -> Sent {
     let bytes = given.bytes;
     let count = given.len;
-    let done = cab.frame_in(scan::part(&bytes, 0, count), &mut *lent);
+    let done = cab.frame_in(scan::part(&bytes, 0, count), &mut *out);
     let after = done.cab;
     let verdict = done.verdict;
     let len = done.len;
     Sent {
         cab: after,
-        answer: put_wrote(said(verdict), scan::part(lent, 0, len)),
-        len,
-    }
-}
-
-// The same, and how many bytes after the frame are as they were.
-fn send_into(cab: Cab, given: Buffer, lent: &mut [u8]) -> Sent {
-    let sent = send(cab, given, &mut *lent);
-    let after = sent.cab;
-    let len = sent.len;
-    Sent {
-        cab: after,
-        answer: packets::put_untouched(sent.answer, scan::part(lent, len, lent.len())),
-        len,
+        answer: lent::put_wrote(said(verdict), out, len, end),
     }
 }
 
@@ -105,11 +78,4 @@ fn said(verdict: Verdict) -> Buffer {
         Verdict::Accepted => Buffer::new(),
         Verdict::Refused(r) => packets::refusal(r.number()).put_all(b", "),
     }
-}
-
-fn put_wrote(answer: Buffer, frame: &[u8]) -> Buffer {
-    if frame.len() == 0 {
-        return answer.put_all(b"wrote nothing");
-    }
-    answer.put_all(b"wrote ").put_list(frame)
 }

@@ -4,6 +4,7 @@ use crate::bus;
 use crate::cab_box;
 use crate::frames;
 use crate::held;
+use crate::office_end;
 use crate::packets;
 use crate::scan;
 use crate::state::State;
@@ -45,6 +46,9 @@ fn named(state: State, call: &[u8]) -> Answered {
     if check::same(name, b"box") {
         return cab_box::frame_in(state, arguments);
     }
+    if check::same(name, b"office") {
+        return office_end::run(state, arguments);
+    }
     Answered {
         state,
         answer: told(state, name, arguments),
@@ -58,6 +62,10 @@ fn told(state: State, name: &[u8], arguments: &[u8]) -> Buffer {
     }
     if check::same(name, b"box-held") {
         return held::held(state.cab.controller, arguments);
+    }
+    if check::same(name, b"office-held") {
+        let office = state.office;
+        return held::held_in(office.settings, arguments);
     }
     stateless(name, arguments)
 }

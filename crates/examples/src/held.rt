@@ -12,7 +12,7 @@ pub fn held(controller: Controller, register: &[u8]) -> Buffer {
     held_in(controller.settings(), register)
 }
 
-fn held_in(settings: Settings, register: &[u8]) -> Buffer {
+pub fn held_in(settings: Settings, register: &[u8]) -> Buffer {
     if check::same(register, b"backlight") {
         return number(settings.backlight as usize);
     }

@@ -6,6 +6,8 @@ mod cab_box;
 mod calls;
 mod frames;
 mod held;
+mod lent;
+mod office_end;
 mod packets;
 mod scan;
 mod state;

@@ -1,11 +1,13 @@
-// What goes on from one line of the table to the next: the controller on the bus, and the cab box with its own.
+// What goes on from one line of the table to the next: the controller on the bus, the cab box with its own, and the office.
 use cabbox::Cab;
 use controller::Controller;
 use link::SessionId;
+use office::Office;
 
 pub struct State {
     pub controller: Controller,
     pub cab: Cab,
+    pub office: Office,
 }
 
 impl State {
@@ -13,16 +15,37 @@ impl State {
         State {
             controller: Controller::fresh(),
             cab: Cab::restart(SessionId(0)),
+            office: Office::new(),
         }
     }
 
     pub fn with_controller(self, controller: Controller) -> State {
         let cab = self.cab;
-        State { controller, cab }
+        let office = self.office;
+        State {
+            controller,
+            cab,
+            office,
+        }
     }
 
     pub fn with_cab(self, cab: Cab) -> State {
         let controller = self.controller;
-        State { controller, cab }
+        let office = self.office;
+        State {
+            controller,
+            cab,
+            office,
+        }
+    }
+
+    pub fn with_office(self, office: Office) -> State {
+        let controller = self.controller;
+        let cab = self.cab;
+        State {
+            controller,
+            cab,
+            office,
+        }
     }
 }

@@ -1,0 +1,233 @@
+// The calls at the office.
+use crate::buffer::Buffer;
+use crate::calls;
+use crate::calls::Answered;
+use crate::lent;
+use crate::lent::LENT;
+use crate::packets;
+use crate::packets::UNTOUCHED;
+use crate::scan;
+use crate::scan::Byte;
+use crate::scan::Long;
+use crate::scan::Number;
+use crate::scan::Short;
+use crate::state::State;
+use link::Ask;
+use link::FRAME_LIMIT;
+use link::Frame;
+use link::SessionId;
+use office::Office;
+use office::Progress;
+use office::Received;
+use office::Turned;
+use office::Verdict;
+
+// What a call answers, and the office after it.
+struct Sent {
+    office: Office,
+    answer: Buffer,
+}
+
+pub fn run(state: State, s: &[u8]) -> Answered {
+    let name = scan::word(s);
+    let arguments = scan::after_word(s);
+    if check::same(name, b"open") {
+        return open(state, arguments);
+    }
+    if check::same(name, b"issue") {
+        return issue(state, arguments);
+    }
+    if check::same(name, b"issue-many") {
+        return issue_many(state, arguments);
+    }
+    if check::same(name, b"in") {
+        return frame_in(state, arguments);
+    }
+    if check::same(name, b"word") {
+        return Answered {
+            state,
+            answer: word(state),
+        };
+    }
+    calls::unreadable(state)
+}
+
+// office word
+fn word(state: State) -> Buffer {
+    let office = state.office;
+    match office.progress() {
+        Progress::Settled => Buffer::new().put_all(b"settled"),
+        Progress::Waiting => Buffer::new().put_all(b"waiting"),
+        Progress::Over => Buffer::new().put_all(b"over"),
+    }
+}
+
+fn answered(state: State, sent: Sent) -> Answered {
+    let office = sent.office;
+    let answer = sent.answer;
+    Answered {
+        state: state.with_office(office),
+        answer,
+    }
+}
+
+fn turned(done: Turned, out: &[u8], end: &[u8]) -> Sent {
+    let office = done.office;
+    let verdict = done.verdict;
+    let len = done.len;
+    Sent {
+        office,
+        answer: lent::put_wrote(said(verdict), out, len, end),
+    }
+}
+
+fn said(verdict: Verdict) -> Buffer {
+    match verdict {
+        Verdict::Accepted => Buffer::new(),
+        Verdict::Refused(r) => packets::refusal(r.number()).put_all(b", "),
+    }
+}
+
+// office open S, or office open S into N
+fn open(state: State, s: &[u8]) -> Answered {
+    let Long::Of(session) = scan::read_long(scan::word(s)) else {
+        return calls::unreadable(state);
+    };
+    let end = scan::after_word(s);
+    let Number::Of(n) = lent::length(end) else {
+        return calls::unreadable(state);
+    };
+    if LENT < n {
+        return calls::unreadable(state);
+    }
+    let mut out = [UNTOUCHED; LENT];
+    let office = state.office;
+    let sent = open_to(office, SessionId(session), &mut out[0..n], end);
+    answered(state, sent)
+}
+
+fn open_to(office: Office, session: SessionId, out: &mut [u8], end: &[u8]) -> Sent {
+    let done = office.open(session, &mut *out);
+    turned(done, out, end)
+}
+
+// office issue raise N, lower N or command HH BYTES, also with into N behind
+fn issue(state: State, s: &[u8]) -> Answered {
+    let way = scan::word(s);
+    let rest = scan::after_word(s);
+    let first = scan::word(rest);
+    let end = scan::after_word(rest);
+    if check::same(way, b"command") {
+        return issue_command(state, first, end);
+    }
+    let Short::Of(step) = scan::read_short(first) else {
+        return calls::unreadable(state);
+    };
+    if check::same(way, b"raise") {
+        return issue_to(state, Ask::Raise(step), Buffer::new(), end);
+    }
+    if check::same(way, b"lower") {
+        return issue_to(state, Ask::Lower(step), Buffer::new(), end);
+    }
+    calls::unreadable(state)
+}
+
+fn issue_command(state: State, first: &[u8], s: &[u8]) -> Answered {
+    let Byte::Of(command) = scan::read_byte(first) else {
+        return calls::unreadable(state);
+    };
+    let read = scan::read_bytes(s);
+    let at = read.end;
+    let end = scan::part(s, at, s.len());
+    issue_to(state, Ask::Command(command), read.buffer, end)
+}
+
+fn issue_to(state: State, ask: Ask, given: Buffer, end: &[u8]) -> Answered {
+    let Number::Of(n) = lent::length(end) else {
+        return calls::unreadable(state);
+    };
+    if LENT < n {
+        return calls::unreadable(state);
+    }
+    let mut out = [UNTOUCHED; LENT];
+    let office = state.office;
+    let sent = issue_into(office, ask, given, &mut out[0..n], end);
+    answered(state, sent)
+}
+
+fn issue_into(office: Office, ask: Ask, given: Buffer, out: &mut [u8], end: &[u8]) -> Sent {
+    let bytes = given.bytes;
+    let count = given.len;
+    let done = office.issue(ask, scan::part(&bytes, 0, count), &mut *out);
+    turned(done, out, end)
+}
+
+// office issue-many N: N times an order to raise by 0, each with its ACK
+fn issue_many(state: State, s: &[u8]) -> Answered {
+    let Number::Of(n) = scan::read_decimal(s) else {
+        return calls::unreadable(state);
+    };
+    let office = state.office;
+    Answered {
+        state: state.with_office(taken_many(office, n)),
+        answer: Buffer::new().put_all(b"issued"),
+    }
+}
+
+fn taken_many(start: Office, n: usize) -> Office {
+    let mut office = start;
+    let mut i: usize = 0;
+    while i < n {
+        office = taken(office);
+        i += 1;
+    }
+    office
+}
+
+fn taken(start: Office) -> Office {
+    let office = issued(start);
+    let session = office.session;
+    let number = office.issued;
+    let e = link::encode(Frame::ack(session, number));
+    let bytes = e.bytes;
+    let len = e.len;
+    let got = office.frame_in(scan::part(&bytes, 0, len));
+    let after = got.office;
+    after
+}
+
+fn issued(office: Office) -> Office {
+    let mut out = [UNTOUCHED; FRAME_LIMIT];
+    let done = office.issue(Ask::Raise(0), b"", &mut out);
+    let after = done.office;
+    after
+}
+
+// office in BYTES
+fn frame_in(state: State, s: &[u8]) -> Answered {
+    let read = scan::read_bytes(s);
+    if read.end < s.len() {
+        return calls::unreadable(state);
+    }
+    let office = state.office;
+    let got = received(office, read.buffer);
+    let after = got.office;
+    let verdict = got.verdict;
+    Answered {
+        state: state.with_office(after),
+        answer: judged(verdict),
+    }
+}
+
+fn received(office: Office, given: Buffer) -> Received {
+    let bytes = given.bytes;
+    let count = given.len;
+    office.frame_in(scan::part(&bytes, 0, count))
+}
+
+fn judged(verdict: Verdict) -> Buffer {
+    match verdict {
+        Verdict::Accepted => Buffer::new().put_all(b"accepted"),
+        Verdict::Refused(r) => packets::refusal(r.number()),
+    }
+}
