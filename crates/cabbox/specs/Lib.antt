@@ -1,3 +1,2 @@
-pub mod Box
 pub mod Laws
 pub mod View

@@ -1,11 +1,11 @@
 // An order at the controller.
 use controller::Controller;
-use link::Change;
+use frame::Change;
 ghost use mathlib.Core.Path.{_≡_};
 ghost use lib.ListN.{replicate};
 ghost use Rattle.controller.specs.Run.{run};
-ghost use Rattle.link.specs.View.{asked};
-ghost use Rattle.cabbox.specs.Box as spec;
+ghost use Rattle.frame.specs.View.{asked};
+ghost use Rattle.session.specs.Box as spec;
 
 fn run_bytes(start: Controller, bytes: &[u8]) -> Controller
     ensures { λ r. ⌜ r ≡ run start (now (bytes .entry)) ⌝ }

@@ -14,15 +14,15 @@ use borrow.Author.Tests.{lt-ltb, le-ltb, eq-eqb, ne-eqb, lt-leb}
 use Rattle.packet.specs.Packet.{total, checksum}
 use Rattle.packet.specs.PacketLaws.{checksum-snoc}
 use Rattle.packet.proofs.Loops.{drop-more}
-use Rattle.controller.specs.declared.settings.Settings.{Settings}
-use Rattle.controller.specs.declared.settings.Flag.the-variants.{Incomplete, EscapeSeen, BytesIgnored, WrongChecksum}
-use Rattle.controller.specs.declared.command.Outgoing.{Outgoing}
-use Rattle.controller.specs.declared.command.Performed.{Performed}
+use Rattle.settings.specs.declared.settings.Settings.{Settings}
+use Rattle.settings.specs.declared.settings.Flag.the-variants.{Incomplete, EscapeSeen, BytesIgnored, WrongChecksum}
+use Rattle.registers.specs.declared.command.Outgoing.{Outgoing}
+use Rattle.registers.specs.declared.command.Performed.{Performed}
 use Rattle.controller.specs.declared.bus.Phase.{Phase}
 use Rattle.controller.specs.declared.bus.Phase.the-variants.{Idle, Command, Length, Data, Checksum}
 use Rattle.controller.specs.declared.bus.Collected.{Collected}
 use Rattle.controller.specs.declared.bus.Controller.{Controller}
-use Rattle.controller.specs.Commands.{outgoing}
+use Rattle.registers.specs.Commands.{outgoing}
 use Rattle.controller.specs.Bus.{
   is-idle,
   after-length,

@@ -5,16 +5,15 @@ use Prim.Native.Nat.{ℕ, _+_, _/_, _%_, _^_}
 use mathlib.Core.Bool.{Bool, true, false, cond, not, _&&_}
 use mathlib.Core.List.{List, [], _∷_, _++_}
 use mathlib.Core.Option.{Option, none, some}
-use lib.ListN.{length, getD, take, drop}
+use lib.ListN.{length, getD, take}
 use lib.Dec.{eqb, leb}
 use Rattle.packet.specs.Packet.{checksum}
 use Rattle.packet.specs.Reply.{success}
-use Rattle.controller.specs.declared.settings.Settings.{Settings}
-use Rattle.controller.specs.declared.settings.StatusBytes.{StatusBytes}
-use Rattle.controller.specs.declared.command.Register.{Register}
-use Rattle.controller.specs.declared.command.Register.the-variants.{Backlight, Master, Park, Splash, Strength, Heater, Bezel, Status, Pixels}
-use Rattle.controller.specs.Settings.{fresh, with-status, cleared}
-use Rattle.controller.specs.Commands.{read, written}
+use Rattle.settings.specs.declared.settings.Settings.{Settings}
+use Rattle.registers.specs.declared.command.Register.{Register}
+use Rattle.registers.specs.declared.command.Register.the-variants.{Backlight, Master, Park, Splash, Strength, Heater, Bezel, Status, Pixels}
+use Rattle.settings.specs.Settings.{fresh, with-status, cleared}
+use Rattle.registers.specs.Commands.{read, written}
 
 -- ---- status bits, by their numbers
 

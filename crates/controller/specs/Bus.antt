@@ -1,7 +1,7 @@
 -- The byte exchange, one definition a case: document 01, "Bytes on the bus".
 use Prim.Native.Nat.{ℕ, _+_, _-_, _%_}
 use mathlib.Core.Bool.{Bool, true, false, cond}
-use mathlib.Core.List.{List, [], _∷_}
+use mathlib.Core.List.{[], _∷_}
 use lib.ListN.{getD, set, take, replicate}
 use lib.Dec.{eqb, leb, ltb}
 use Rattle.controller.specs.declared.bus.Phase.{Phase}
@@ -9,13 +9,13 @@ use Rattle.controller.specs.declared.bus.Phase.the-variants.{Idle, Comma
 use Rattle.controller.specs.declared.bus.Collected.{Collected}
 use Rattle.controller.specs.declared.bus.Controller.{Controller}
 use Rattle.controller.specs.declared.bus.Exchanged.{Exchanged}
-use Rattle.controller.specs.declared.command.Outgoing.{Outgoing}
-use Rattle.controller.specs.declared.command.Performed.{Performed}
-use Rattle.controller.specs.declared.settings.Settings.{Settings}
-use Rattle.controller.specs.declared.settings.Flag.{Flag}
-use Rattle.controller.specs.declared.settings.Flag.the-variants.{Incomplete, EscapeSeen, BytesIgnored, WrongChecksum}
-use Rattle.controller.specs.Settings as settings-spec
-use Rattle.controller.specs.Commands.{perform, outgoing}
+use Rattle.registers.specs.declared.command.Outgoing.{Outgoing}
+use Rattle.registers.specs.declared.command.Performed.{Performed}
+use Rattle.settings.specs.declared.settings.Settings.{Settings}
+use Rattle.settings.specs.declared.settings.Flag.{Flag}
+use Rattle.settings.specs.declared.settings.Flag.the-variants.{Incomplete, EscapeSeen, BytesIgnored, WrongChecksum}
+use Rattle.settings.specs.Settings as settings-spec
+use Rattle.registers.specs.Commands.{perform, outgoing}
 
 abbrev pub is-idle : Phase → Bool
 is-idle Idle = true

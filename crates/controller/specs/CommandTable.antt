@@ -8,8 +8,8 @@ use mathlib.Core.Option.{Option, none, some}
 use lib.ListN.{length}
 use lib.Dec.{eqb, T}
 use Rattle.packet.specs.declared.writer.Access.the-variants.{Write, Read}
-use Rattle.controller.specs.declared.command.Register.{Register}
-use Rattle.controller.specs.declared.command.Register.the-variants.{
+use Rattle.registers.specs.declared.command.Register.{Register}
+use Rattle.registers.specs.declared.command.Register.the-variants.{
   Backlight,
   Master,
   Park,
@@ -20,14 +20,14 @@ use Rattle.controller.specs.declared.command.Register.the-variants.{
   Status,
   Pixels,
 }
-use Rattle.controller.specs.declared.command.Lookup.{Lookup}
-use Rattle.controller.specs.declared.command.Lookup.the-variants.{Found, Unknown}
-use Rattle.controller.specs.declared.command.Performed.{Performed}
-use Rattle.controller.specs.declared.settings.Settings.{Settings}
-use Rattle.controller.specs.declared.settings.Flag.{Flag}
-use Rattle.controller.specs.declared.settings.Flag.the-variants.{NotAvailable, InvalidCommand, OutOfRange, WrongLength}
-use Rattle.controller.specs.Settings.{no-flags}
-use Rattle.controller.specs.Commands.{
+use Rattle.registers.specs.declared.command.Lookup.{Lookup}
+use Rattle.registers.specs.declared.command.Lookup.the-variants.{Found, Unknown}
+use Rattle.registers.specs.declared.command.Performed.{Performed}
+use Rattle.settings.specs.declared.settings.Settings.{Settings}
+use Rattle.settings.specs.declared.settings.Flag.{Flag}
+use Rattle.settings.specs.declared.settings.Flag.the-variants.{NotAvailable, InvalidCommand, OutOfRange, WrongLength}
+use Rattle.settings.specs.Settings.{no-flags}
+use Rattle.registers.specs.Commands.{
   lookup,
   access,
   offers,

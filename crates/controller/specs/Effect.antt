@@ -1,8 +1,8 @@
 -- When settings change: one exchange sets a named status bit, or completes a packet that is performed; and a performed
 -- packet writes its register exactly where it passes every check.
 use Prim.Native.Nat.{ℕ, _/_}
-use mathlib.Core.Path.{_≡_, refl, sym, ap, _∙_}
-use mathlib.Core.Bool.{Bool, true, false, cond}
+use mathlib.Core.Path.{_≡_, refl, _∙_}
+use mathlib.Core.Bool.{true, false, cond}
 use mathlib.Core.List.{List, [], _∷_}
 use lib.ListN.{length}
 use lib.Dec.{eqb, ltb}
@@ -13,16 +13,16 @@ use Rattle.packet.specs.declared.writer.Access.the-variants.{Write, Read}
 use Rattle.controller.specs.declared.bus.Phase.{Phase}
 use Rattle.controller.specs.declared.bus.Phase.the-variants.{Idle, Command, Length, Data, Checksum}
 use Rattle.controller.specs.declared.bus.Controller.{Controller}
-use Rattle.controller.specs.declared.command.Register.{Register}
-use Rattle.controller.specs.declared.command.Performed.{Performed}
-use Rattle.controller.specs.declared.command.Lookup.{Lookup}
-use Rattle.controller.specs.declared.command.Lookup.the-variants.{Found, Unknown}
-use Rattle.controller.specs.declared.settings.Settings.{Settings}
-use Rattle.controller.specs.declared.settings.Flag.{Flag}
-use Rattle.controller.specs.declared.settings.Flag.the-variants.{Incomplete, NotAvailable, InvalidCommand, OutOfRange, EscapeSeen, WrongLength, BytesIgnored, WrongChecksum}
-use Rattle.controller.specs.Settings.{flagged}
-use Rattle.controller.specs.Commands.{lookup, access, offers, request-length, data-count, accepts, written, after-read, locked, outgoing, write-register, obey, perform-found, perform-looked-up, perform}
-use Rattle.controller.specs.Bus.{is-idle, controller-of, performed, judge, feed-at, inside, outside, start, after, exchange}
+use Rattle.registers.specs.declared.command.Register.{Register}
+use Rattle.registers.specs.declared.command.Performed.{Performed}
+use Rattle.registers.specs.declared.command.Lookup.{Lookup}
+use Rattle.registers.specs.declared.command.Lookup.the-variants.{Found, Unknown}
+use Rattle.settings.specs.declared.settings.Settings.{Settings}
+use Rattle.settings.specs.declared.settings.Flag.{Flag}
+use Rattle.settings.specs.declared.settings.Flag.the-variants.{Incomplete, NotAvailable, InvalidCommand, OutOfRange, EscapeSeen, WrongLength, BytesIgnored, WrongChecksum}
+use Rattle.settings.specs.Settings.{flagged}
+use Rattle.registers.specs.Commands.{lookup, access, offers, request-length, data-count, accepts, written, after-read, locked, outgoing, write-register, obey, perform-found, perform-looked-up, perform}
+use Rattle.controller.specs.Bus.{is-idle, performed, judge, feed-at, inside, outside, start, after, exchange}
 
 -- ---- a packet that is performed
 

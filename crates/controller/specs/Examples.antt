@@ -7,14 +7,14 @@ use lib.IntN.{ℤ, pos, negsuc}
 use lib.Dec.{eqb, T}
 use Rattle.packet.specs.Packet.{total, checksum}
 use Rattle.packet.specs.Reply.{success}
-use Rattle.controller.specs.declared.settings.Settings.{Settings}
-use Rattle.controller.specs.declared.settings.HeaterDrive.{HeaterDrive}
-use Rattle.controller.specs.declared.settings.Offsets.{Offsets}
-use Rattle.controller.specs.declared.settings.Area.{Area}
-use Rattle.controller.specs.declared.settings.StatusBytes.{StatusBytes}
-use Rattle.controller.specs.Settings.{set-bit, flagged}
+use Rattle.settings.specs.declared.settings.Settings.{Settings}
+use Rattle.settings.specs.declared.settings.HeaterDrive.{HeaterDrive}
+use Rattle.settings.specs.declared.settings.Offsets.{Offsets}
+use Rattle.settings.specs.declared.settings.Area.{Area}
+use Rattle.settings.specs.declared.settings.StatusBytes.{StatusBytes}
+use Rattle.settings.specs.Settings.{set-bit, flagged}
 use Rattle.number.specs.Signed.{offset}
-use Rattle.controller.specs.Commands.{lookup, access, write-register, perform-found}
+use Rattle.registers.specs.Commands.{lookup, access, write-register, perform-found}
 use Rattle.controller.specs.Bus.{fresh, after-length, after-data, start, judge, feed-at, inside, outside, after, out}
 use Rattle.controller.specs.Run.{run, outs}
 use Rattle.controller.specs.AsWritten.{table, find, command, checked, begin, whole, closed, collected, in-packet, taken, step, steps, sent}

@@ -2,14 +2,11 @@ pub mod Agreement
 pub mod AsWritten
 pub mod Bus
 pub mod CommandTable
-pub mod Commands
 pub mod Effect
 pub mod Examples
+pub mod Keeps
 pub mod NothingBefore
 pub mod ReadsBack
-pub mod Registers
 pub mod Run
-pub mod Settings
 pub mod Settles
 pub mod StatusBits
-pub mod StatusLaws

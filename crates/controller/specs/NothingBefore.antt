@@ -15,12 +15,11 @@ use Rattle.controller.specs.declared.bus.Phase.{Phase}
 use Rattle.controller.specs.declared.bus.Phase.the-variants.{Command, Length}
 use Rattle.controller.specs.declared.bus.Collected.{Collected}
 use Rattle.controller.specs.declared.bus.Controller.{Controller}
-use Rattle.controller.specs.declared.settings.Settings.{Settings}
-use Rattle.controller.specs.declared.settings.Flag.the-variants.{Incomplete, EscapeSeen}
-use Rattle.controller.specs.Settings.{flagged}
+use Rattle.settings.specs.declared.settings.Settings.{Settings}
+use Rattle.settings.specs.declared.settings.Flag.the-variants.{Incomplete, EscapeSeen}
+use Rattle.settings.specs.Settings.{flagged, cleared, cleared-flagged}
 use Rattle.controller.specs.Bus.{is-idle, feed-at, after-length, after}
 use Rattle.controller.specs.Run.{run, run-append}
-use Rattle.controller.specs.Registers.{registers, registers-flagged}
 use Rattle.controller.specs.ReadsBack.{opening, has-escape, noted, noted-append, reading, escape-opens, byte-in, after-length-busy, fields-in, packet-is, start-in}
 
 -- ---- what holds of every proper beginning of an escaped list
@@ -124,25 +123,25 @@ nothing-before c id access d (suc i) h =
     (ap (λ (x : Controller). run x (take i (escape (k ∷ length d ∷ d ++ sum ∷ []))) .settings) (start-in c)
     ∙ noted-inside (opening c) (c .packet) k d sum i (omega (arith, ap length (packet-escaped k d))))
 
-pub registers-opening : (c : Controller) → registers (opening c) ≡ registers (c .settings)
-registers-opening c = by-cases (is-idle (c .phase))
+pub cleared-opening : (c : Controller) → cleared (opening c) ≡ cleared (c .settings)
+cleared-opening c = by-cases (is-idle (c .phase))
   where
-    by-cases : (x : Bool) → registers (cond x (c .settings) (flagged (c .settings) Incomplete)) ≡ registers (c .settings)
+    by-cases : (x : Bool) → cleared (cond x (c .settings) (flagged (c .settings) Incomplete)) ≡ cleared (c .settings)
     by-cases true = refl
-    by-cases false = registers-flagged (c .settings) Incomplete
+    by-cases false = cleared-flagged (c .settings) Incomplete
 
-pub registers-noted : (σ : Settings) (bytes : List ℕ) → registers (noted σ bytes) ≡ registers σ
-registers-noted σ bytes = by-cases (has-escape bytes)
+pub cleared-noted : (σ : Settings) (bytes : List ℕ) → cleared (noted σ bytes) ≡ cleared σ
+cleared-noted σ bytes = by-cases (has-escape bytes)
   where
-    by-cases : (x : Bool) → registers (cond x (flagged σ EscapeSeen) σ) ≡ registers σ
-    by-cases true = registers-flagged σ EscapeSeen
+    by-cases : (x : Bool) → cleared (cond x (flagged σ EscapeSeen) σ) ≡ cleared σ
+    by-cases true = cleared-flagged σ EscapeSeen
     by-cases false = refl
 
 -- so no register but status changes
-pub registers-before : (c : Controller) (id : ℕ) (access : Access) (d : List ℕ) (i : ℕ) → i < length (packet id access d) →
-    registers (run c (take i (packet id access d)) .settings) ≡ registers (c .settings)
-registers-before c id access d i h = rw (nothing-before c id access d i h) (by-cases (eqb i 0))
+pub cleared-before : (c : Controller) (id : ℕ) (access : Access) (d : List ℕ) (i : ℕ) → i < length (packet id access d) →
+    cleared (run c (take i (packet id access d)) .settings) ≡ cleared (c .settings)
+cleared-before c id access d i h = rw (nothing-before c id access d i h) (by-cases (eqb i 0))
   where
-    by-cases : (x : Bool) → registers (cond x (c .settings) (noted (opening c) (take i (packet id access d)))) ≡ registers (c .settings)
+    by-cases : (x : Bool) → cleared (cond x (c .settings) (noted (opening c) (take i (packet id access d)))) ≡ cleared (c .settings)
     by-cases true = refl
-    by-cases false = registers-noted (opening c) (take i (packet id access d)) ∙ registers-opening c
+    by-cases false = cleared-noted (opening c) (take i (packet id access d)) ∙ cleared-opening c

@@ -16,10 +16,10 @@ use Rattle.controller.specs.declared.bus.Phase.{Phase}
 use Rattle.controller.specs.declared.bus.Phase.the-variants.{Idle, Command, Length, Data, Checksum}
 use Rattle.controller.specs.declared.bus.Collected.{Collected}
 use Rattle.controller.specs.declared.bus.Controller.{Controller}
-use Rattle.controller.specs.declared.settings.Settings.{Settings}
-use Rattle.controller.specs.declared.settings.Flag.the-variants.{Incomplete, EscapeSeen}
-use Rattle.controller.specs.Settings.{set-bit, flagged}
-use Rattle.controller.specs.Commands.{perform}
+use Rattle.settings.specs.declared.settings.Settings.{Settings}
+use Rattle.settings.specs.declared.settings.Flag.the-variants.{Incomplete, EscapeSeen}
+use Rattle.settings.specs.Settings.{set-bit, flagged}
+use Rattle.registers.specs.Commands.{perform}
 use Rattle.controller.specs.Bus.{
   flagged as flagged-controller,
   is-idle,

@@ -15,13 +15,13 @@ use Rattle.packet.specs.declared.writer.Access.{Access}
 use Rattle.packet.specs.declared.writer.Access.the-variants.{Write, Read}
 use Rattle.controller.specs.declared.bus.Phase.the-variants.{Idle}
 use Rattle.controller.specs.declared.bus.Controller.{Controller}
-use Rattle.controller.specs.declared.command.Lookup.{Lookup}
-use Rattle.controller.specs.declared.command.Lookup.the-variants.{Found, Unknown}
-use Rattle.controller.specs.declared.command.Performed.{Performed}
-use Rattle.controller.specs.declared.command.Register.{Register}
-use Rattle.controller.specs.declared.command.Register.the-variants.{Backlight, Master, Park, Splash, Strength, Heater, Bezel, Status, Pixels}
-use Rattle.controller.specs.declared.settings.Settings.{Settings}
-use Rattle.controller.specs.Commands.{
+use Rattle.registers.specs.declared.command.Lookup.{Lookup}
+use Rattle.registers.specs.declared.command.Lookup.the-variants.{Found, Unknown}
+use Rattle.registers.specs.declared.command.Performed.{Performed}
+use Rattle.registers.specs.declared.command.Register.{Register}
+use Rattle.registers.specs.declared.command.Register.the-variants.{Backlight, Master, Park, Splash, Strength, Heater, Bezel, Status, Pixels}
+use Rattle.settings.specs.declared.settings.Settings.{Settings}
+use Rattle.registers.specs.Commands.{
   lookup,
   access as access-of,
   offers,

@@ -4,10 +4,10 @@ use mathlib.Core.Path.{_≡_}
 use mathlib.Core.Bool.{Bool}
 use native.Mathlib.Omega.{arith}
 use lib.Dec.{eqb, ltb, T, eqb→eq, ltb→lt, lit<}
-use Rattle.controller.specs.declared.settings.Settings.{Settings}
-use Rattle.controller.specs.declared.settings.StatusBytes.{StatusBytes}
-use Rattle.controller.specs.declared.settings.Flag.{Flag}
-use Rattle.controller.specs.declared.settings.Flag.the-variants.{
+use Rattle.settings.specs.declared.settings.Settings.{Settings}
+use Rattle.settings.specs.declared.settings.StatusBytes.{StatusBytes}
+use Rattle.settings.specs.declared.settings.Flag.{Flag}
+use Rattle.settings.specs.declared.settings.Flag.the-variants.{
   Incomplete,
   NotAvailable,
   InvalidCommand,
@@ -17,7 +17,7 @@ use Rattle.controller.specs.declared.settings.Flag.the-variants.{
   BytesIgnored,
   WrongChecksum,
 }
-use Rattle.controller.specs.Settings.{set-bit, in-first, in-second, in-fourth, with-status, flagged}
+use Rattle.settings.specs.Settings.{set-bit, in-first, in-second, in-fourth, with-status, flagged}
 use Rattle.controller.specs.AsWritten as written
 use Rattle.packet.proofs.Tests.{all-below, below-each}
 

@@ -1,11 +1,11 @@
 // The byte exchange: a byte in, a byte out, and the controller after it.
-use crate::command::Outgoing;
-use crate::command::Performed;
-use crate::command::perform;
-use crate::command::response;
-use crate::settings::Flag;
-use crate::settings::Settings;
 use number::byte;
+use registers::Outgoing;
+use registers::Performed;
+use registers::perform;
+use registers::response;
+use settings::Flag;
+use settings::Settings;
 ghost use mathlib.Core.Path.{_≡_};
 ghost use Prim.Native.Nat.{_<_};
 ghost use Rattle.controller.specs.Bus as spec;

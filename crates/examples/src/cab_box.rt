@@ -10,9 +10,9 @@ use crate::scan;
 use crate::scan::Long;
 use crate::scan::Number;
 use crate::state::State;
-use cabbox::Cab;
-use cabbox::Verdict;
-use link::SessionId;
+use frame::SessionId;
+use frame::Verdict;
+use session::Cab;
 
 // What a frame in answers, and the box after it.
 struct Sent {
@@ -26,7 +26,7 @@ pub fn restart(state: State, s: &[u8]) -> Answered {
         return calls::unreadable(state);
     };
     Answered {
-        state: state.with_cab(Cab::restart(SessionId(highest))),
+        state: state.with_cab(cabbox::restart(SessionId(highest))),
         answer: Buffer::new().put_all(b"restarted"),
     }
 }
@@ -63,7 +63,7 @@ fn answered(state: State, sent: Sent) -> Answered {
 fn send(cab: Cab, given: Buffer, out: &mut [u8], end: &[u8]) -> Sent {
     let bytes = given.bytes;
     let count = given.len;
-    let done = cab.frame_in(scan::part(&bytes, 0, count), &mut *out);
+    let done = cabbox::frame_in(cab, scan::part(&bytes, 0, count), &mut *out);
     let after = done.cab;
     let verdict = done.verdict;
     let len = done.len;

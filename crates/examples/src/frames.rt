@@ -5,11 +5,11 @@ use crate::scan::Byte;
 use crate::scan::Long;
 use crate::scan::Short;
 use controller::Controller;
-use link::Change;
-use link::Frame;
-use link::Kind;
-use link::OrderNumber;
-use link::SessionId;
+use frame::Change;
+use frame::Frame;
+use frame::Kind;
+use frame::OrderNumber;
+use frame::SessionId;
 
 // encode FRAME
 pub fn encode(s: &[u8]) -> Buffer {

@@ -1,11 +1,11 @@
 // The calls that tell what a controller holds.
 use crate::buffer::Buffer;
-use controller::Area;
 use controller::Controller;
-use controller::HeaterDrive;
-use controller::Offsets;
-use controller::Settings;
-use controller::StatusBytes;
+use settings::Area;
+use settings::HeaterDrive;
+use settings::Offsets;
+use settings::Settings;
+use settings::StatusBytes;
 
 // held REGISTER, or box-held REGISTER
 pub fn held(controller: Controller, register: &[u8]) -> Buffer {

@@ -12,15 +12,26 @@ use crate::scan::Long;
 use crate::scan::Number;
 use crate::scan::Short;
 use crate::state::State;
-use link::Ask;
+use frame::Ask;
+use frame::Frame;
+use frame::OrderNumber;
+use frame::SessionId;
+use frame::Verdict;
 use link::FRAME_LIMIT;
-use link::Frame;
-use link::SessionId;
-use office::Office;
-use office::Progress;
 use office::Received;
 use office::Turned;
-use office::Verdict;
+use session::Office;
+use session::Progress;
+
+// A call that may write a frame.
+enum Writing {
+    Open(u32),
+    Command(u8),
+    Raise(u16),
+    Lower(u16),
+    Resend(u16),
+    Reopen,
+}
 
 // What a call answers, and the office after it.
 struct Sent {
@@ -40,6 +51,12 @@ pub fn run(state: State, s: &[u8]) -> Answered {
     if check::same(name, b"issue-many") {
         return issue_many(state, arguments);
     }
+    if check::same(name, b"resend") {
+        return resend(state, arguments);
+    }
+    if check::same(name, b"reopen") {
+        return run_writing(state, Writing::Reopen, Buffer::new(), arguments);
+    }
     if check::same(name, b"in") {
         return frame_in(state, arguments);
     }
@@ -55,7 +72,7 @@ pub fn run(state: State, s: &[u8]) -> Answered {
 // office word
 fn word(state: State) -> Buffer {
     let office = state.office;
-    match office.progress() {
+    match office::progress(office) {
         Progress::Settled => Buffer::new().put_all(b"settled"),
         Progress::Waiting => Buffer::new().put_all(b"waiting"),
         Progress::Over => Buffer::new().put_all(b"over"),
@@ -88,30 +105,20 @@ fn said(verdict: Verdict) -> Buffer {
     }
 }
 
-// office open S, or office open S into N
+// office open S
 fn open(state: State, s: &[u8]) -> Answered {
     let Long::Of(session) = scan::read_long(scan::word(s)) else {
         return calls::unreadable(state);
     };
-    let end = scan::after_word(s);
-    let Number::Of(n) = lent::length(end) else {
-        return calls::unreadable(state);
-    };
-    if LENT < n {
-        return calls::unreadable(state);
-    }
-    let mut out = [UNTOUCHED; LENT];
-    let office = state.office;
-    let sent = open_to(office, SessionId(session), &mut out[0..n], end);
-    answered(state, sent)
+    run_writing(
+        state,
+        Writing::Open(session),
+        Buffer::new(),
+        scan::after_word(s),
+    )
 }
 
-fn open_to(office: Office, session: SessionId, out: &mut [u8], end: &[u8]) -> Sent {
-    let done = office.open(session, &mut *out);
-    turned(done, out, end)
-}
-
-// office issue raise N, lower N or command HH BYTES, also with into N behind
+// office issue raise N, lower N or command HH BYTES
 fn issue(state: State, s: &[u8]) -> Answered {
     let way = scan::word(s);
     let rest = scan::after_word(s);
@@ -124,10 +131,10 @@ fn issue(state: State, s: &[u8]) -> Answered {
         return calls::unreadable(state);
     };
     if check::same(way, b"raise") {
-        return issue_to(state, Ask::Raise(step), Buffer::new(), end);
+        return run_writing(state, Writing::Raise(step), Buffer::new(), end);
     }
     if check::same(way, b"lower") {
-        return issue_to(state, Ask::Lower(step), Buffer::new(), end);
+        return run_writing(state, Writing::Lower(step), Buffer::new(), end);
     }
     calls::unreadable(state)
 }
@@ -139,10 +146,24 @@ fn issue_command(state: State, first: &[u8], s: &[u8]) -> Answered {
     let read = scan::read_bytes(s);
     let at = read.end;
     let end = scan::part(s, at, s.len());
-    issue_to(state, Ask::Command(command), read.buffer, end)
+    run_writing(state, Writing::Command(command), read.buffer, end)
 }
 
-fn issue_to(state: State, ask: Ask, given: Buffer, end: &[u8]) -> Answered {
+// office resend N
+fn resend(state: State, s: &[u8]) -> Answered {
+    let Short::Of(number) = scan::read_short(scan::word(s)) else {
+        return calls::unreadable(state);
+    };
+    run_writing(
+        state,
+        Writing::Resend(number),
+        Buffer::new(),
+        scan::after_word(s),
+    )
+}
+
+// A call that may write a frame, with an output of N bytes where into N ends its line.
+fn run_writing(state: State, call: Writing, given: Buffer, end: &[u8]) -> Answered {
     let Number::Of(n) = lent::length(end) else {
         return calls::unreadable(state);
     };
@@ -151,15 +172,26 @@ fn issue_to(state: State, ask: Ask, given: Buffer, end: &[u8]) -> Answered {
     }
     let mut out = [UNTOUCHED; LENT];
     let office = state.office;
-    let sent = issue_into(office, ask, given, &mut out[0..n], end);
+    let sent = write_to(office, call, given, &mut out[0..n], end);
     answered(state, sent)
 }
 
-fn issue_into(office: Office, ask: Ask, given: Buffer, out: &mut [u8], end: &[u8]) -> Sent {
+fn write_to(office: Office, call: Writing, given: Buffer, out: &mut [u8], end: &[u8]) -> Sent {
     let bytes = given.bytes;
     let count = given.len;
-    let done = office.issue(ask, scan::part(&bytes, 0, count), &mut *out);
+    let done = called(office, call, scan::part(&bytes, 0, count), &mut *out);
     turned(done, out, end)
+}
+
+fn called(office: Office, call: Writing, bytes: &[u8], out: &mut [u8]) -> Turned {
+    match call {
+        Writing::Open(session) => office::open(office, SessionId(session), &mut *out),
+        Writing::Command(command) => office::issue(office, Ask::Command(command), bytes, &mut *out),
+        Writing::Raise(step) => office::issue(office, Ask::Raise(step), bytes, &mut *out),
+        Writing::Lower(step) => office::issue(office, Ask::Lower(step), bytes, &mut *out),
+        Writing::Resend(number) => office::resend(office, OrderNumber(number), &mut *out),
+        Writing::Reopen => office::reopen(office, &mut *out),
+    }
 }
 
 // office issue-many N: N times an order to raise by 0, each with its ACK
@@ -191,14 +223,14 @@ fn taken(start: Office) -> Office {
     let e = link::encode(Frame::ack(session, number));
     let bytes = e.bytes;
     let len = e.len;
-    let got = office.frame_in(scan::part(&bytes, 0, len));
+    let got = office::frame_in(office, scan::part(&bytes, 0, len));
     let after = got.office;
     after
 }
 
 fn issued(office: Office) -> Office {
     let mut out = [UNTOUCHED; FRAME_LIMIT];
-    let done = office.issue(Ask::Raise(0), b"", &mut out);
+    let done = office::issue(office, Ask::Raise(0), b"", &mut out);
     let after = done.office;
     after
 }
@@ -222,7 +254,7 @@ fn frame_in(state: State, s: &[u8]) -> Answered {
 fn received(office: Office, given: Buffer) -> Received {
     let bytes = given.bytes;
     let count = given.len;
-    office.frame_in(scan::part(&bytes, 0, count))
+    office::frame_in(office, scan::part(&bytes, 0, count))
 }
 
 fn judged(verdict: Verdict) -> Buffer {

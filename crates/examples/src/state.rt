@@ -1,8 +1,8 @@
 // What goes on from one line of the table to the next: the controller on the bus, the cab box with its own, and the office.
-use cabbox::Cab;
 use controller::Controller;
-use link::SessionId;
-use office::Office;
+use frame::SessionId;
+use session::Cab;
+use session::Office;
 
 pub struct State {
     pub controller: Controller,
@@ -14,8 +14,8 @@ impl State {
     pub fn fresh() -> State {
         State {
             controller: Controller::fresh(),
-            cab: Cab::restart(SessionId(0)),
-            office: Office::new(),
+            cab: cabbox::restart(SessionId(0)),
+            office: office::new(),
         }
     }
 

@@ -8,10 +8,12 @@ use lib.ListN.{length, drop, replicate, length-append}
 use lib.Seq.{take-append-seam}
 use Rattle.packet.proofs.Loops.{sets-append, sets-front}
 use Rattle.link.specs.declared.encoded.Encoded.{Encoded}
-use Rattle.link.specs.declared.frame.Frame.{Frame as FrameStruct}
-use Rattle.link.specs.Frame.{Frame, encode}
+use Rattle.frame.specs.declared.frame.Frame.{Frame as FrameStruct}
+use Rattle.frame.specs.Frame.{data-limit, Frame}
+use Rattle.link.specs.Frame.{encode}
 use Rattle.link.specs.Steps.{pushed, short}
-use Rattle.link.specs.View.{frame-limit, data-limit, meaning, encoding-of, bytes-of, encoded}
+use Rattle.frame.specs.View.{meaning}
+use Rattle.link.specs.View.{frame-limit, encoding-of, bytes-of, encoded}
 use Rattle.link.specs.FrameLaws.{encode-length, meaning-length}
 
 pub pushed-append : (e : Encoded) (xs ys : List ℕ) → pushed (pushed e xs) ys ≡ pushed e (xs ++ ys)

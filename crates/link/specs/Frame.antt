@@ -1,5 +1,5 @@
--- The five frames: document 01, "The adjustment link".
-use Prim.Native.Nat.{ℕ, _+_, _<_, _≤_}
+-- The five frames in bytes: document 01, "The adjustment link".
+use Prim.Native.Nat.{ℕ, _<_, _≤_}
 use mathlib.Core.Path.{_≡_}
 use mathlib.Core.Bool.{Bool, true, false, cond, _&&_}
 use mathlib.Core.List.{List, [], _∷_, _++_}
@@ -7,22 +7,9 @@ use mathlib.Core.Option.{Option, none, some}
 use lib.ListN.{length, getD, drop}
 use lib.Dec.{eqb, leb}
 use Rattle.number.specs.Number.{word, word-bytes, long, long-bytes}
-use Rattle.controller.specs.declared.settings.Settings.{Settings}
-use Rattle.link.specs.Block.{block, from-block, in-range, Held}
-
--- what an order asks for: a command with its data, or the backlight raised or lowered by a step
-pub data Change : Type 0 where
-  command : ℕ → List ℕ → Change
-  raise : ℕ → Change
-  lower : ℕ → Change
-
--- sessions come first, then an order's number, an acknowledged count or a refusal's number
-pub data Frame : Type 0 where
-  opening : ℕ → Frame
-  welcome : ℕ → Settings → Frame
-  order : ℕ → ℕ → Change → Frame
-  ack : ℕ → ℕ → Frame
-  refuse : ℕ → ℕ → Frame
+use Rattle.settings.specs.declared.settings.Settings.{Settings}
+use Rattle.frame.specs.Frame.{data-limit, Change, command, raise, lower, Frame, opening, welcome, order, ack, refuse, ValidChange}
+use Rattle.registers.specs.Block.{block, from-block, in-range, Held}
 
 -- ---- to bytes
 
@@ -43,11 +30,6 @@ encode (ack s k) = field 0x13 (long-bytes s ++ word-bytes k)
 encode (refuse s r) = field 0x14 (long-bytes s ++ r ∷ [])
 
 -- ---- which frames are well formed
-
-pub data ValidChange : Change → Type 0 where
-  valid-command : {k : ℕ} {d : List ℕ} → k < 256 → length d ≤ 16 → ((i : ℕ) → getD d i 0 < 256) → ValidChange (command k d)
-  valid-raise : {n : ℕ} → n < 65536 → ValidChange (raise n)
-  valid-lower : {n : ℕ} → n < 65536 → ValidChange (lower n)
 
 pub data Valid : Frame → Type 0 where
   valid-opening : {s : ℕ} → s < 4294967296 → Valid (opening s)
@@ -85,7 +67,7 @@ promised b =
     none))))
 
 abbrev pub short-enough : Change → Bool
-short-enough (command k d) = leb (length d) 16
+short-enough (command k d) = leb (length d) data-limit
 short-enough (raise n) = true
 short-enough (lower n) = true
 

@@ -9,14 +9,16 @@ use mathlib.Core.Option.{Option, none, some, Option·some-injective}
 use lib.ListN.{length, getD, drop}
 use lib.Dec.{T, eqb, leb}
 use borrow.Author.Tests.{eq-eqb, le-leb, eqb-true, leb-true}
-use Rattle.number.specs.Number.{word, word-bytes, word-read, long, long-bytes}
+use Rattle.number.specs.Number.{word, word-bytes, word-read, long, long-bytes, long-read}
 use Rattle.packet.proofs.Tests.{cond-cases}
-use Rattle.link.specs.Block.{block}
-use Rattle.link.specs.BlockTheorems.{block-read, block-bytes, from-block-held}
-use Rattle.link.specs.Laws.{Bytes, bytes-cons, bytes-append, bytes-drop, bytes-each, bytes-word, bytes-long, word-below, long-below, long-read, both-true}
-use Rattle.link.specs.Frame.{Change, command, raise, lower, Frame, opening, welcome, order, ack, refuse, field, change-field, encode, ValidChange, valid-command, valid-raise, valid-lower, Valid, valid-opening, valid-welcome, valid-order, valid-ack, valid-refuse, same, promised-change, order-of, promised, short-enough, allowed, accepted, decode}
+use Rattle.registers.specs.Block.{block}
+use Rattle.registers.specs.BlockTheorems.{block-read, block-bytes, from-block-held}
+use Rattle.registers.specs.ByteLaws.{Bytes, bytes-cons, bytes-append, bytes-drop, bytes-each, bytes-word, bytes-long, word-below, long-below, both-true}
+use Rattle.frame.specs.Frame.{data-limit, Change, command, raise, lower, Frame, opening, welcome, order, ack, refuse, ValidChange, valid-command, valid-raise, valid-lower}
+use Rattle.link.specs.Frame.{field, change-field, encode, Valid, valid-opening, valid-welcome, valid-order, valid-ack, valid-refuse, same, promised-change, order-of, promised, short-enough, allowed, accepted, decode}
 use Rattle.link.specs.FrameLaws.{encode-length}
 use Rattle.link.specs.Steps.{short}
+use Rattle.link.specs.View.{frame-limit}
 
 -- ---- the comparison
 
@@ -52,7 +54,7 @@ module _ (s n : ℕ) (hs : s < 4294967296) (hn : n < 65536) where
   order-sound b bytes =
       let step = word-below (drop 3 b) (bytes-drop 3 b bytes) in
       cond-cases Ordered (eqb (getD b 0 0) 0x21) _ _
-      (λ _. with-change (command (getD b 3 0) (drop 4 b)) (λ e. valid-command (bytes 3) (leb-true (length (drop 4 b)) 16 e) (bytes-drop 4 b bytes)))
+      (λ _. with-change (command (getD b 3 0) (drop 4 b)) (λ e. valid-command (bytes 3) (leb-true (length (drop 4 b)) data-limit e) (bytes-drop 4 b bytes)))
       (λ _. cond-cases Ordered (eqb (getD b 0 0) 0x22) _ _ (λ _. with-change (raise (word (drop 3 b))) (λ _. valid-raise step))
       (λ _. cond-cases Ordered (eqb (getD b 0 0) 0x23) _ _ (λ _. with-change (lower (word (drop 3 b))) (λ _. valid-lower step))
       (λ _. tt)))
@@ -102,7 +104,7 @@ encode-promised (ack s k) (valid-ack hs hk) = λ i. some (ack (long-read s hs i)
 encode-promised (refuse s r) (valid-refuse hs h4 h7 h0) = ap (λ (x : ℕ). some (refuse x r)) (long-read s hs)
 
 change-short : (c : Change) → ValidChange c → short-enough c ≡ true
-change-short (command k d) (valid-command hk hd hb) = le-leb (length d) 16 hd
+change-short (command k d) (valid-command hk hd hb) = le-leb (length d) data-limit hd
 change-short (raise n) v = refl
 change-short (lower n) v = refl
 
@@ -135,7 +137,7 @@ valid-short (order s n c) (valid-order hs h1 hn hc) = change-short c hc
 valid-short (ack s k) v = refl
 valid-short (refuse s r) v = refl
 
-pub encode-short : (f : Frame) → Valid f → length (encode f) ≤ 37
+pub encode-short : (f : Frame) → Valid f → length (encode f) ≤ frame-limit
 encode-short f v = encode-length f (valid-short f v)
 
 field-bytes : (tag : ℕ) (contents : List ℕ) → tag < 256 → Bytes contents → Bytes (field tag contents)

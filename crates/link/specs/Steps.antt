@@ -1,22 +1,13 @@
 -- What private functions do on the way: definitions that no public contract cites.
 use Prim.Native.Nat.{ℕ, _+_}
 use mathlib.Core.Bool.{Bool, true, false, cond}
-use mathlib.Core.List.{List, [], _∷_, _++_}
+use mathlib.Core.List.{List}
 use mathlib.Core.Option.{Option, none, some}
 use lib.ListN.{length}
 use lib.Seq.{sets}
-use Rattle.number.specs.Number.{word-bytes}
-use Rattle.controller.specs.declared.settings.Settings.{Settings}
-use Rattle.controller.specs.Commands.{heater-bytes}
 use Rattle.link.specs.declared.encoded.Encoded.{Encoded}
-use Rattle.link.specs.Frame.{Frame, opening, welcome, order, ack, refuse, short-enough, allowed}
-
--- a block's first nine bytes
-abbrev pub register-bytes : Settings → List ℕ
-register-bytes σ =
-    word-bytes (σ .backlight)
-    ++ (σ .master ∷ σ .park ∷ σ .splash ∷ σ .strength ∷ [])
-    ++ heater-bytes (σ .heater)
+use Rattle.frame.specs.Frame.{Frame, opening, welcome, order, ack, refuse}
+use Rattle.link.specs.Frame.{short-enough, allowed}
 
 -- with bytes behind those that it has
 unfoldable pub pushed : Encoded → List ℕ → Encoded

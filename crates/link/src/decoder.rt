@@ -1,20 +1,22 @@
 // Bytes to frames.
 use crate::encoder::encode;
-use crate::frame::Change;
-use crate::frame::DATA_LIMIT;
-use crate::frame::Frame;
-use crate::frame::Kind;
-use crate::frame::OrderNumber;
-use crate::frame::SessionId;
-use crate::settings::from_block;
 use crate::tag;
-use controller::Settings;
+use frame::Change;
+use frame::DATA_LIMIT;
+use frame::Frame;
+use frame::Kind;
+use frame::OrderNumber;
+use frame::SessionId;
 use number::byte;
 use number::long;
 use number::rest;
 use number::word;
+use registers::from_block;
+use settings::Settings;
 ghost use mathlib.Core.Path.{_≡_};
-ghost use Rattle.link.specs.Block.{in-range};
+ghost use Rattle.registers.specs.Block.{in-range};
+ghost use Rattle.frame.specs.View.{frame-of, meaning};
+ghost use Rattle.frame.specs.Frame as frames;
 ghost use Rattle.link.specs.Frame as spec;
 ghost use Rattle.link.specs.Steps as steps;
 ghost use Rattle.link.specs.View as view;
@@ -37,7 +39,7 @@ fn same_bytes(a: &[u8], b: &[u8]) -> bool
 
 // The order whose change begins bytes. Data that the struct has no room for are not allowed anyway.
 fn promised_order(session: SessionId, number: OrderNumber, bytes: &[u8]) -> Frame
-    ensures { λ r. ⌜ r ≡ view.frame-of (steps.held (spec.order-of (session .0) (number .0) (spec.promised-change (now (bytes .entry))))) ⌝ }
+    ensures { λ r. ⌜ r ≡ frame-of (steps.held (spec.order-of (session .0) (number .0) (spec.promised-change (now (bytes .entry))))) ⌝ }
 {
     let first = byte(bytes, 0);
     if first == tag::COMMAND {
@@ -58,7 +60,7 @@ fn promised_order(session: SessionId, number: OrderNumber, bytes: &[u8]) -> Fram
 
 // The frame that the tags promise, read by position.
 fn promised(bytes: &[u8]) -> Frame
-    ensures { λ r. ⌜ r ≡ view.frame-of (steps.held (spec.promised (now (bytes .entry)))) ⌝ }
+    ensures { λ r. ⌜ r ≡ frame-of (steps.held (spec.promised (now (bytes .entry)))) ⌝ }
 {
     let first = byte(bytes, 0);
     let session = SessionId(long(rest(bytes, 3)));
@@ -101,7 +103,7 @@ fn settings_allowed(settings: Settings) -> bool
 }
 
 fn refusal_allowed(session: SessionId, refusal: u8) -> bool
-    ensures { λ r. ⌜ r ≡ spec.allowed (spec.refuse (session .0) refusal) ⌝ }
+    ensures { λ r. ⌜ r ≡ spec.allowed (frames.refuse (session .0) refusal) ⌝ }
 {
     if refusal < 4 {
         return false;
@@ -116,7 +118,7 @@ fn refusal_allowed(session: SessionId, refusal: u8) -> bool
 }
 
 fn allowed(frame: Frame) -> bool
-    ensures { λ r. ⌜ r ≡ steps.allowed-of (view.meaning frame) ⌝ }
+    ensures { λ r. ⌜ r ≡ steps.allowed-of (meaning frame) ⌝ }
 {
     let kind = frame.kind;
     let number = frame.number;
@@ -131,7 +133,7 @@ fn allowed(frame: Frame) -> bool
 }
 
 fn encodes_to(frame: Frame, bytes: &[u8]) -> bool
-    ensures { λ r. ⌜ r ≡ spec.same (view.encoding-of (view.meaning frame)) (now (bytes .entry)) ⌝ }
+    ensures { λ r. ⌜ r ≡ spec.same (view.encoding-of (meaning frame)) (now (bytes .entry)) ⌝ }
 {
     let e = encode(frame);
     let b = e.bytes;
@@ -141,8 +143,8 @@ fn encodes_to(frame: Frame, bytes: &[u8]) -> bool
 
 // The frame that bytes are, with nothing after it; if they are none, the malformed one.
 pub fn decode(bytes: &[u8]) -> Frame
-    ensures whole { λ r. ⌜ r ≡ view.frame-of (spec.decode (now (bytes .entry))) ⌝ }
-    ensures meaning { λ r. ⌜ view.meaning r ≡ spec.decode (now (bytes .entry)) ⌝ }
+    ensures whole { λ r. ⌜ r ≡ frame-of (spec.decode (now (bytes .entry))) ⌝ }
+    ensures meaning { λ r. ⌜ meaning r ≡ spec.decode (now (bytes .entry)) ⌝ }
 {
     let frame = promised(bytes);
     if allowed(frame) {

@@ -1,15 +1,16 @@
 // A frame as bytes, and how it is built up.
-use crate::store::store;
+use frame::Verdict;
 use number::high;
 use number::low;
 use packet::Refusal;
-use packet::Written;
+use packet::store;
 ghost use mathlib.Core.Path.{_≡_};
 ghost use mathlib.Core.List.{[], _∷_};
 ghost use Prim.Native.Nat.{_+_, _≤_};
 ghost use lib.ListN.{length};
 ghost use Rattle.number.specs.Number.{word-bytes};
-ghost use Rattle.packet.specs.Writer as writer;
+ghost use Rattle.frame.specs.View.{refusal-of};
+ghost use Rattle.packet.specs.Writer.{overwritten};
 ghost use Rattle.link.specs.Frame.{field as field-of};
 ghost use Rattle.link.specs.Steps as steps;
 ghost use Rattle.link.specs.View as view;
@@ -63,26 +64,26 @@ impl Encoded {
     }
 }
 
-fn put_bytes(bytes: &[u8], out: &mut [u8]) -> Written
-    ensures answer { λ r. ⌜ writer.answer r ≡ writer.length-of (view.placed (now (bytes .entry)) (length (now (out .entry)))) ⌝ }
-    ensures output { λ r. ⌜ now (out .exit) ≡ writer.overwritten (writer.bytes-of (view.placed (now (bytes .entry)) (length (now (out .entry))))) (now (out .entry)) ⌝ }
-{
-    if out.len() < bytes.len() {
-        return Written::Refused(Refusal::OutputTooShort);
-    }
-    store(bytes, &mut *out, 0);
-    Written::Length(bytes.len())
+// What was written to a lent output: the first len bytes, none where it was too short.
+pub struct Sent {
+    pub verdict: Verdict,
+    pub len: usize,
 }
 
-// Writes a frame at the start of out. A refusal leaves out as it was.
-pub fn put(encoded: Encoded, out: &mut [u8]) -> Written
-    ensures answer { λ r. ⌜ writer.answer r ≡ writer.length-of (view.placed (view.bytes-of encoded) (length (now (out .entry)))) ⌝ }
-    ensures output { λ r. ⌜ now (out .exit) ≡ writer.overwritten (writer.bytes-of (view.placed (view.bytes-of encoded) (length (now (out .entry))))) (now (out .entry)) ⌝ }
+pub(crate) fn put(bytes: &[u8], out: &mut [u8]) -> Sent
+    ensures refusal { λ r. ⌜ refusal-of (r .verdict) ≡ view.sent-refusal (now (bytes .entry)) (length (now (out .entry))) ⌝ }
+    ensures length { λ r. ⌜ r .len ≡ length (view.sent-bytes (now (bytes .entry)) (length (now (out .entry)))) ⌝ }
+    ensures output { λ r. ⌜ now (out .exit) ≡ overwritten (view.sent-bytes (now (bytes .entry)) (length (now (out .entry)))) (now (out .entry)) ⌝ }
 {
-    let bytes = encoded.bytes;
-    let len = encoded.len;
-    if FRAME_LIMIT < len {
-        return put_bytes(&bytes, &mut *out);
+    if out.len() < bytes.len() {
+        return Sent {
+            verdict: Verdict::Refused(Refusal::OutputTooShort),
+            len: 0,
+        };
     }
-    put_bytes(&bytes[..len], &mut *out)
+    store(bytes, &mut *out, 0);
+    Sent {
+        verdict: Verdict::Accepted,
+        len: bytes.len(),
+    }
 }

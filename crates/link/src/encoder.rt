@@ -1,22 +1,27 @@
 // Frames to bytes.
 use crate::encoded::Encoded;
-use crate::frame::Ask;
-use crate::frame::Change;
-use crate::frame::DATA_LIMIT;
-use crate::frame::Frame;
-use crate::frame::Kind;
-use crate::frame::OrderNumber;
-use crate::frame::SessionId;
-use crate::settings::block;
+use crate::encoded::Sent;
+use crate::encoded::put;
 use crate::tag;
-use controller::Settings;
+use frame::Ask;
+use frame::Change;
+use frame::DATA_LIMIT;
+use frame::Frame;
+use frame::Kind;
+use frame::OrderNumber;
+use frame::SessionId;
 use number::high;
 use number::low;
+use registers::block;
+use settings::Settings;
 ghost use mathlib.Core.Path.{_≡_};
 ghost use mathlib.Core.List.{_++_};
 ghost use Prim.Native.Nat.{_≤_};
 ghost use lib.ListN.{length};
 ghost use Rattle.number.specs.Number.{word-bytes, long-bytes as long-bytes-of};
+ghost use Rattle.packet.specs.Writer.{overwritten};
+ghost use Rattle.frame.specs.View.{asked, meaning, refusal-of};
+ghost use Rattle.frame.specs.Frame as frames;
 ghost use Rattle.link.specs.Frame as spec;
 ghost use Rattle.link.specs.Steps as steps;
 ghost use Rattle.link.specs.View as view;
@@ -42,14 +47,14 @@ fn numbered(session: SessionId, number: OrderNumber) -> [u8; 6]
 }
 
 fn opening(session: SessionId) -> Encoded
-    ensures { λ r. ⌜ r ≡ view.encoded (spec.encode (spec.opening (session .0))) ⌝ }
+    ensures { λ r. ⌜ r ≡ view.encoded (spec.encode (frames.opening (session .0))) ⌝ }
 {
     let s = long_bytes(session.0);
     Encoded::empty().field(tag::OPENING, &s)
 }
 
 fn welcome(session: SessionId, settings: Settings) -> Encoded
-    ensures { λ r. ⌜ r ≡ view.encoded (spec.encode (spec.welcome (session .0) settings)) ⌝ }
+    ensures { λ r. ⌜ r ≡ view.encoded (spec.encode (frames.welcome (session .0) settings)) ⌝ }
 {
     let s = long_bytes(session.0);
     let b = block(settings);
@@ -59,8 +64,8 @@ fn welcome(session: SessionId, settings: Settings) -> Encoded
 }
 
 fn command_field(e: Encoded, command: u8, bytes: &[u8]) -> Encoded
-    requires { ⌜ (e .len ≤ 9) × (length (now bytes) ≤ view.data-limit) ⌝ }
-    ensures { λ r. ⌜ r ≡ steps.pushed e (spec.change-field (spec.command command (now (bytes .entry)))) ⌝ }
+    requires { ⌜ (e .len ≤ 9) × (length (now bytes) ≤ frames.data-limit) ⌝ }
+    ensures { λ r. ⌜ r ≡ steps.pushed e (spec.change-field (frames.command command (now (bytes .entry)))) ⌝ }
 {
     let k = [command];
     e.header(tag::COMMAND, bytes.len() as u16 + 1)
@@ -78,7 +83,7 @@ fn step_field(e: Encoded, tag: u8, step: u16) -> Encoded
 
 fn change_field(e: Encoded, change: Change) -> Encoded
     requires { ⌜ e .len ≤ 9 ⌝ }
-    ensures { λ r. ⌜ r ≡ steps.pushed e (spec.change-field (view.asked change)) ⌝ }
+    ensures { λ r. ⌜ r ≡ steps.pushed e (spec.change-field (asked change)) ⌝ }
 {
     let ask = change.ask;
     match ask {
@@ -96,21 +101,21 @@ fn change_field(e: Encoded, change: Change) -> Encoded
 }
 
 fn order(session: SessionId, number: OrderNumber, change: Change) -> Encoded
-    ensures { λ r. ⌜ r ≡ view.encoded (spec.encode (spec.order (session .0) (number .0) (view.asked change))) ⌝ }
+    ensures { λ r. ⌜ r ≡ view.encoded (spec.encode (frames.order (session .0) (number .0) (asked change))) ⌝ }
 {
     let b = numbered(session, number);
     change_field(Encoded::empty().field(tag::ORDER, &b), change)
 }
 
 fn ack(session: SessionId, count: OrderNumber) -> Encoded
-    ensures { λ r. ⌜ r ≡ view.encoded (spec.encode (spec.ack (session .0) (count .0))) ⌝ }
+    ensures { λ r. ⌜ r ≡ view.encoded (spec.encode (frames.ack (session .0) (count .0))) ⌝ }
 {
     let b = numbered(session, count);
     Encoded::empty().field(tag::ACK, &b)
 }
 
 fn refuse(session: SessionId, refusal: u8) -> Encoded
-    ensures { λ r. ⌜ r ≡ view.encoded (spec.encode (spec.refuse (session .0) refusal)) ⌝ }
+    ensures { λ r. ⌜ r ≡ view.encoded (spec.encode (frames.refuse (session .0) refusal)) ⌝ }
 {
     let s = long_bytes(session.0);
     let b = [s[0], s[1], s[2], s[3], refusal];
@@ -119,8 +124,8 @@ fn refuse(session: SessionId, refusal: u8) -> Encoded
 
 // A frame as bytes; the malformed one has none.
 pub fn encode(frame: Frame) -> Encoded
-    ensures whole { λ r. ⌜ r ≡ view.encoded (view.encoding-of (view.meaning frame)) ⌝ }
-    ensures bytes { λ r. ⌜ view.bytes-of r ≡ view.encoding-of (view.meaning frame) ⌝ }
+    ensures whole { λ r. ⌜ r ≡ view.encoded (view.encoding-of (meaning frame)) ⌝ }
+    ensures bytes { λ r. ⌜ view.bytes-of r ≡ view.encoding-of (meaning frame) ⌝ }
     ensures short { λ r. ⌜ r .len ≤ view.frame-limit ⌝ }
 {
     let kind = frame.kind;
@@ -134,4 +139,17 @@ pub fn encode(frame: Frame) -> Encoded
         Kind::Ack => ack(session, number),
         Kind::Refuse(refusal) => refuse(session, refusal),
     }
+}
+
+// Writes a frame at the start of out. A refusal leaves out as it was.
+pub fn send(frame: Frame, out: &mut [u8]) -> Sent
+    ensures refusal { λ r. ⌜ refusal-of (r .verdict) ≡ view.sent-refusal (view.encoding-of (meaning frame)) (length (now (out .entry))) ⌝ }
+    ensures length { λ r. ⌜ r .len ≡ length (view.sent-bytes (view.encoding-of (meaning frame)) (length (now (out .entry)))) ⌝ }
+    ensures output { λ r. ⌜ now (out .exit) ≡ overwritten (view.sent-bytes (view.encoding-of (meaning frame)) (length (now (out .entry)))) (now (out .entry)) ⌝ }
+    ensures whole { λ r. ⌜ (view.frame-limit ≤ length (now (out .entry)) → view.sent-bytes (view.encoding-of (meaning frame)) (length (now (out .entry))) ≡ view.encoding-of (meaning frame)) ⌝ }
+{
+    let e = encode(frame);
+    let bytes = e.bytes;
+    let len = e.len;
+    put(&bytes[..len], &mut *out)
 }

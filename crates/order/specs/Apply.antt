@@ -6,10 +6,10 @@ use lib.ListN.{length, take, replicate}
 use Rattle.number.specs.Number.{word-bytes}
 use Rattle.packet.specs.Packet.{packet-of}
 use Rattle.packet.specs.Writer.{overwritten}
-use Rattle.controller.specs.declared.settings.Settings.{Settings}
-use Rattle.controller.specs.Commands.{perform}
+use Rattle.settings.specs.declared.settings.Settings.{Settings}
+use Rattle.registers.specs.Commands.{perform}
 use Rattle.controller.specs.ReadsBack.{noted}
-use Rattle.link.specs.Frame.{Change, command, raise, lower}
+use Rattle.frame.specs.Frame.{data-limit, Change, command, raise, lower}
 use Rattle.order.specs.declared.change.Packet.{Packet}
 use Rattle.order.specs.declared.change.Resolved.{Resolved}
 
@@ -45,7 +45,7 @@ resolved-data r = take (r .count) (r .body)
 pub record Resolves (level : ℕ) (change : Change) (r : Resolved) : Type 0 where
   pub command-is : r .command ≡ command-byte change
   pub data-is : resolved-data r ≡ command-data level change
-  pub short : r .count ≤ 16
+  pub short : r .count ≤ data-limit
 
 -- a packet's bytes at the front of 516
 abbrev pub built : List ℕ → Packet

@@ -13,11 +13,11 @@ use Rattle.packet.specs.PacketTheorems.{packet-short}
 use Rattle.packet.specs.declared.writer.Access.{Access}
 use Rattle.packet.specs.declared.writer.Access.the-variants.{Write, Read}
 use Rattle.controller.specs.declared.bus.Controller.{Controller}
-use Rattle.controller.specs.Commands.{access, perform}
+use Rattle.registers.specs.Commands.{access, perform}
 use Rattle.controller.specs.Run.{run, run-append}
 use Rattle.controller.specs.ReadsBack.{opening, noted, reads-back}
 use Rattle.controller.specs.Settles.{Ready, reply-short, settles}
-use Rattle.link.specs.Frame.{Change}
+use Rattle.frame.specs.Frame.{data-limit, Change}
 use Rattle.order.specs.declared.change.Resolved.{Resolved}
 use Rattle.order.specs.Apply.{command-byte as command-of, command-data, order-packet, apply, resolved-data, built}
 
@@ -33,7 +33,7 @@ command-byte-back k = by-cases (eqb (k % 2) 1) refl
 pub packet-of-short : (k : ℕ) (d : List ℕ) → length d ≤ 255 → length (packet-of k d) ≤ 516
 packet-of-short k d short = rw command-byte-back at (packet-short (k / 2) (access k) d short)
 
-pub resolved-short : (r : Resolved) → r .count ≤ 16 → length (resolved-data r) ≤ 255
+pub resolved-short : (r : Resolved) → r .count ≤ data-limit → length (resolved-data r) ≤ 255
 resolved-short r short = rw length-take (omega arith)
 
 -- the bytes that a packet was built of

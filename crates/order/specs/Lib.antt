@@ -1,2 +1,3 @@
 pub mod Apply
+pub mod Keeps
 pub mod Laws

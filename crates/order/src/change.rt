@@ -1,17 +1,18 @@
 // A change as a command, and its packet.
-use controller::access;
-use link::Ask;
-use link::Change;
-use link::DATA_LIMIT;
+use frame::Ask;
+use frame::Change;
+use frame::DATA_LIMIT;
 use number::high;
 use number::low;
 use packet::Written;
+use registers::access;
+ghost use Rattle.frame.specs.Frame.{data-limit};
 ghost use mathlib.Core.Path.{_≡_};
 ghost use Prim.Native.Nat.{_+_, _-_, _≤_, min};
 ghost use lib.ListN.{length};
 ghost use Rattle.packet.specs.Packet.{packet-of};
 ghost use Rattle.packet.specs.Writer.{overwritten};
-ghost use Rattle.link.specs.View.{asked};
+ghost use Rattle.frame.specs.View.{asked};
 ghost use Rattle.order.specs.Apply as spec;
 
 // A packet's first len bytes; the longest packet is 516 bytes.
@@ -96,7 +97,7 @@ fn written(command: u8, bytes: &[u8], out: &mut [u8]) -> usize
 }
 
 pub(crate) fn packet_of(resolved: Resolved) -> Packet
-    requires { ⌜ resolved .count ≤ 16 ⌝ }
+    requires { ⌜ resolved .count ≤ data-limit ⌝ }
     ensures { λ r. ⌜ r ≡ spec.packet-for resolved ⌝ }
 {
     let body = resolved.body;

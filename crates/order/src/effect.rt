@@ -3,16 +3,17 @@ use crate::change::Packet;
 use crate::change::Resolved;
 use crate::change::packet_of;
 use crate::change::resolve;
-use controller::Flag;
-use controller::Settings;
-use controller::perform;
-use link::Change;
+use frame::Change;
+use registers::perform;
+use settings::Flag;
+use settings::Settings;
+ghost use Rattle.frame.specs.Frame.{data-limit};
 ghost use mathlib.Core.Path.{_≡_};
 ghost use Prim.Native.Nat.{_≤_};
 ghost use lib.ListN.{take};
-ghost use Rattle.controller.specs.Commands.{perform as perform-of};
+ghost use Rattle.registers.specs.Commands.{perform as perform-of};
 ghost use Rattle.controller.specs.ReadsBack.{has-escape as has-escape-of, noted};
-ghost use Rattle.link.specs.View.{asked};
+ghost use Rattle.frame.specs.View.{asked};
 ghost use Rattle.order.specs.Apply as spec;
 
 fn has_escape(bytes: &[u8]) -> bool
@@ -42,7 +43,7 @@ fn note(settings: Settings, packet: Packet) -> Settings
 }
 
 fn performed(settings: Settings, resolved: Resolved) -> Settings
-    requires { ⌜ resolved .count ≤ 16 ⌝ }
+    requires { ⌜ resolved .count ≤ data-limit ⌝ }
     ensures { λ r. ⌜ r ≡ perform-of settings (resolved .command) (spec.resolved-data resolved) .settings ⌝ }
 {
     let body = resolved.body;

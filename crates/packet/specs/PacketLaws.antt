@@ -1,27 +1,12 @@
 -- Theorems on the packet's definition.
-use mathlib.Core.Path.{_≡_, refl, sym, ap, _∙_}
-use mathlib.Core.Bool.{Bool, true, false, cond}
-use mathlib.Core.List.{List, [], _∷_, _++_, append-assoc, append-nil}
-use Prim.Native.Nat.{ℕ, suc, _+_, _*_, _%_, _<_, _≤_}
+use mathlib.Core.Path.{_≡_, refl, sym}
+use mathlib.Core.List.{List, [], _∷_, _++_, append-assoc}
+use Prim.Native.Nat.{ℕ, _+_, _%_}
 use native.Mathlib.Nat.{zero-add, add-zero, add-assoc, mod-add-mod}
 use native.Mathlib.Omega.{arith}
-use lib.ListN.{length, getD, replicate, length-append}
-use lib.Dec.{eqb, leb}
-use borrow.Author.Tests.{eq-eqb, ne-eqb, eqb-true, eqb-false, leb-true, leb-false}
-use Rattle.packet.specs.Packet.{
-  total,
-  checksum,
-  escape-byte,
-  escape,
-  fields,
-  packet-of,
-  packet,
-  unescape-from,
-  unescape,
-  command-byte,
-}
-use Rattle.packet.specs.declared.writer.Access.{Access}
-use Rattle.packet.specs.declared.writer.Access.the-variants.{Write, Read}
+use lib.ListN.{length, length-append}
+use borrow.Author.Tests.{eq-eqb, ne-eqb}
+use Rattle.packet.specs.Packet.{total, checksum, escape-byte, escape, fields}
 
 -- the checksum and the escapes, over a list that grows at its end
 

@@ -1,13 +1,13 @@
 -- The reader's definition on what a controller sends.
-use mathlib.Core.Path.{_≡_, refl, sym, ap, _∙_}
+use mathlib.Core.Path.{_≡_, refl, ap}
 use mathlib.Core.List.{List, [], _∷_, _++_, append-assoc}
-use Prim.Native.Nat.{ℕ, zero, suc, _+_, _≤_}
+use Prim.Native.Nat.{ℕ, zero, suc, _+_}
 use native.Mathlib.Omega.{arith}
 use lib.ListN.{length, replicate, drop, length-append}
 use lib.Seq.{take-at, getD-at}
 use borrow.Author.Tests.{lt-leb, eq-eqb}
 use Rattle.packet.specs.declared.writer.Access.the-variants.{Read}
-use Rattle.packet.specs.Answer.{Answer, accepted}
+use Rattle.packet.specs.Answer.{accepted}
 use Rattle.packet.specs.Packet.{checksum}
 use Rattle.packet.specs.Reply.{dummies, payload-at, after-response, reply-at, reply, success}
 

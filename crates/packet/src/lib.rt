@@ -1,8 +1,10 @@
 // Packets on the bus: the writer, which makes them, and the reader of the controller's replies.
+mod place;
 mod reply;
 mod sum;
 mod writer;
 
+pub use place::store;
 pub use reply::Reply;
 pub use reply::ReplyRead;
 pub use reply::read_reply;

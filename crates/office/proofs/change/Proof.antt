@@ -3,10 +3,10 @@ use Prim.Native.Nat.{_≤_}
 use lib.ListN.{length}
 use lib.Seq.{take-all}
 use borrow.Author.Tests.{ltb-false}
-use Rattle.link.specs.declared.frame.Change.{Change as ChangeStruct}
-use Rattle.link.specs.Frame.{Change}
-use Rattle.link.specs.FrameLaws.{asked-change-of}
-use Rattle.link.specs.View.{asked, asked-as, change-of}
+use Rattle.frame.specs.declared.frame.Change.{Change as ChangeStruct}
+use Rattle.frame.specs.Frame.{Change}
+use Rattle.frame.specs.Laws.{asked-change-of}
+use Rattle.frame.specs.View.{asked, asked-as, change-of}
 use borrow.Author.Needs.{needs}
 use Rattle.office.proofs.change.Statement.{statement}
 use Rattle.office.proofs.change.Tie as tie

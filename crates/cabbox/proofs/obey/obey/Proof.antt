@@ -1,13 +1,13 @@
-use Prim.Native.Nat.{ℕ, _≤_}
+use Prim.Native.Nat.{_≤_}
 use native.Mathlib.Omega.{arith}
 use mathlib.Core.Path.{_≡_, sym, ap, _∙_}
 use lib.ListN.{length, take, length-take}
 use lib.Seq.{length-take-le}
-use Rattle.link.specs.View.{asked}
+use Rattle.frame.specs.View.{asked}
 use Rattle.order.specs.declared.change.Packet.{Packet}
 use Rattle.order.specs.Apply.{command-byte, command-data, order-packet}
 use Rattle.order.specs.Laws.{packet-of-short, built-front}
-use Rattle.cabbox.specs.Laws.{data-short}
+use Rattle.order.specs.Keeps.{data-short}
 use borrow.Author.Needs.{needs}
 use Rattle.cabbox.proofs.obey.obey.Statement.{statement}
 use Rattle.cabbox.proofs.obey.obey.Tie as tie

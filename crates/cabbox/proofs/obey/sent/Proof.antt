@@ -1,6 +1,6 @@
 use borrow.Author.Needs.{needs}
 use Rattle.packet.proofs.Tests.{tests}
-use Rattle.cabbox.specs.Box.{sent}
+use Rattle.session.specs.Box.{sent}
 use Rattle.cabbox.proofs.obey.sent.Statement.{statement}
 use Rattle.cabbox.proofs.obey.sent.Tie as tie
 

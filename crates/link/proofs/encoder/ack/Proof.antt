@@ -1,7 +1,8 @@
 use native.Mathlib.Omega.{arith}
 use mathlib.Core.Path.{refl, _∙_}
 use borrow.Author.Needs.{needs}
-use Rattle.link.specs.Frame.{encode, ack}
+use Rattle.frame.specs.Frame.{ack}
+use Rattle.link.specs.Frame.{encode}
 use Rattle.link.proofs.Building.{built}
 use Rattle.link.proofs.encoder.ack.Statement.{statement}
 use Rattle.link.proofs.encoder.ack.Tie as tie

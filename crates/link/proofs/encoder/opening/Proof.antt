@@ -1,7 +1,8 @@
 use native.Mathlib.Omega.{arith}
 use mathlib.Core.Path.{refl, _∙_}
 use borrow.Author.Needs.{needs}
-use Rattle.link.specs.Frame.{encode, opening}
+use Rattle.frame.specs.Frame.{opening}
+use Rattle.link.specs.Frame.{encode}
 use Rattle.link.proofs.Building.{built}
 use Rattle.link.proofs.encoder.opening.Statement.{statement}
 use Rattle.link.proofs.encoder.opening.Tie as tie

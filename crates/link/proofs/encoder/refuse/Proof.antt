@@ -1,7 +1,8 @@
 use native.Mathlib.Omega.{arith}
 use mathlib.Core.Path.{refl, _∙_}
 use borrow.Author.Needs.{needs}
-use Rattle.link.specs.Frame.{encode, refuse}
+use Rattle.frame.specs.Frame.{refuse}
+use Rattle.link.specs.Frame.{encode}
 use Rattle.link.proofs.Building.{built}
 use Rattle.link.proofs.encoder.refuse.Statement.{statement}
 use Rattle.link.proofs.encoder.refuse.Tie as tie

@@ -2,8 +2,9 @@ use native.Mathlib.Omega.{arith}
 use mathlib.Core.Path.{refl, _∙_}
 use borrow.Author.Needs.{needs}
 use Rattle.link.specs.Steps.{pushed}
-use Rattle.link.specs.BlockTheorems.{block-long}
-use Rattle.link.specs.Frame.{encode, welcome}
+use Rattle.registers.specs.BlockTheorems.{block-long}
+use Rattle.frame.specs.Frame.{welcome}
+use Rattle.link.specs.Frame.{encode}
 use Rattle.link.proofs.Building.{pushed-append, built}
 use Rattle.link.proofs.encoder.welcome.Statement.{statement}
 use Rattle.link.proofs.encoder.welcome.Tie as tie

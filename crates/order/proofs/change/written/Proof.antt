@@ -6,7 +6,7 @@ use lib.ListN.{length}
 use Rattle.packet.specs.Packet.{packet-of}
 use Rattle.packet.specs.Answer.{accepted, refused}
 use Rattle.packet.specs.Writer.{written, written-whole}
-use Rattle.controller.specs.Commands.{access}
+use Rattle.registers.specs.Commands.{access}
 use Rattle.order.specs.Laws.{command-byte-back, packet-of-short}
 use borrow.Author.Needs.{needs}
 use Rattle.order.proofs.change.written.Statement.{statement}

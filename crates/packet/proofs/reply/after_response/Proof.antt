@@ -3,10 +3,6 @@ use Rattle.packet.proofs.Tests.{tests}
 use borrow.Author.Needs.{needs}
 use Rattle.packet.proofs.reply.after_response.Statement.{statement}
 use Rattle.packet.proofs.reply.after_response.Tie as tie
-use Rattle.packet.proofs.reply.after_response.Reads as reads
-use Rattle.packet.proofs.reply.after_response.Lts as lts
-use Rattle.packet.proofs.reply.payload.Reads as payload-reads
-use Rattle.packet.proofs.reply.response_only.Reads as response-only-reads
 
 enum-told : tie.Need-enum-told
 enum-told c = search needs

@@ -1,6 +1,6 @@
 use borrow.Author.Needs.{needs}
 use Prim.Native.Nat.{_≤_, _-_, _+_}
-use mathlib.Core.Path.{_≡_, sym, _∙_, refl}
+use mathlib.Core.Path.{_≡_, sym, _∙_}
 use native.Mathlib.Nat.{add-zero, zero-add}
 use native.Mathlib.Omega.{arith}
 use borrow.Author.Tests.{eq-eqb, ne-eqb}
@@ -9,8 +9,6 @@ use lib.ListN.{length, drop, drop-of-length-le}
 use Rattle.packet.specs.Reply.{dummies}
 use Rattle.packet.proofs.reply.dummies.Statement.{statement}
 use Rattle.packet.proofs.reply.dummies.Tie as tie
-use Rattle.packet.proofs.reply.dummies.Reads as reads
-use Rattle.packet.proofs.reply.dummies.Lts as lts
 
 abbrev Inv-loop : tie.InvT-loop
 Inv-loop bytes at₀ at = (at ≤ length bytes) × (dummies bytes ≡ at + dummies (drop at bytes))

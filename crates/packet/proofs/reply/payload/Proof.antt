@@ -6,9 +6,6 @@ use Rattle.packet.proofs.Replies.{payload-missing, payload-from}
 use borrow.Author.Needs.{needs}
 use Rattle.packet.proofs.reply.payload.Statement.{statement}
 use Rattle.packet.proofs.reply.payload.Tie as tie
-use Rattle.packet.proofs.reply.payload.Reads as reads
-use Rattle.packet.proofs.reply.payload.Lts as lts
-use Rattle.packet.proofs.sum.checksum.Reads as checksum-reads
 
 returns : tie.Need-returns
 returns c =

@@ -3,11 +3,6 @@ use Rattle.packet.proofs.Replies.{reply-missing, reply-from}
 use borrow.Author.Needs.{needs}
 use Rattle.packet.proofs.reply.read_reply.Statement.{statement}
 use Rattle.packet.proofs.reply.read_reply.Tie as tie
-use Rattle.packet.proofs.reply.read_reply.Reads as reads
-use Rattle.packet.proofs.reply.read_reply.Lts as lts
-use Rattle.packet.proofs.reply.after_response.Reads as after-response-reads
-use Rattle.packet.proofs.reply.dummies.Reads as dummies-reads
-use Rattle.packet.proofs.reply.reserved.Reads as reserved-reads
 
 dummies-requires : tie.Need-dummies-requires
 dummies-requires c κs = search needs

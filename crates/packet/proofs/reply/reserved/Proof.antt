@@ -2,8 +2,6 @@ use borrow.Author.Needs.{needs}
 use Rattle.packet.proofs.Tests.{tests}
 use Rattle.packet.proofs.reply.reserved.Statement.{statement}
 use Rattle.packet.proofs.reply.reserved.Tie as tie
-use Rattle.packet.proofs.reply.reserved.Reads as reads
-use Rattle.packet.proofs.reply.reserved.Lts as lts
 
 returns : tie.Need-returns
 returns c = search (needs, tests)

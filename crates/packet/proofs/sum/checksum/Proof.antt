@@ -9,9 +9,6 @@ use Rattle.packet.specs.Packet.{checksum, total}
 use Rattle.packet.proofs.Loops.{checksum-more}
 use Rattle.packet.proofs.sum.checksum.Statement.{statement}
 use Rattle.packet.proofs.sum.checksum.Tie as tie
-use Rattle.packet.proofs.sum.checksum.Reads as reads
-use Rattle.packet.proofs.sum.checksum.Lts as lts
-use Rattle.packet.proofs.sum.add.Reads as add-reads
 
 abbrev Inv-loop : tie.InvT-loop
 Inv-loop first count bytes sum₀ i₀ sum i = (i ≤ length bytes) × (sum ≡ checksum (first ∷ count ∷ take i bytes))

@@ -7,9 +7,6 @@ use Rattle.packet.specs.Packet.{escape-byte, escape}
 use Rattle.packet.proofs.Loops.{escape-more}
 use Rattle.packet.proofs.writer.all_escaped_length.Statement.{statement}
 use Rattle.packet.proofs.writer.all_escaped_length.Tie as tie
-use Rattle.packet.proofs.writer.all_escaped_length.Reads as reads
-use Rattle.packet.proofs.writer.all_escaped_length.Lts as lts
-use Rattle.packet.proofs.writer.escaped_length.Reads as escaped-length-reads
 
 abbrev Inv-loop : tie.InvT-loop
 Inv-loop bytes n₀ i₀ n i = (i ≤ length bytes) × (n ≡ length (escape (take i bytes))) × (n ≤ 2 * i)

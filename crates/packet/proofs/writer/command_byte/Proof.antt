@@ -1,8 +1,6 @@
 use borrow.Author.Needs.{needs}
 use Rattle.packet.proofs.writer.command_byte.Statement.{statement}
 use Rattle.packet.proofs.writer.command_byte.Tie as tie
-use Rattle.packet.proofs.writer.command_byte.Reads as reads
-use Rattle.packet.proofs.writer.command_byte.Lts as lts
 
 enum-told : tie.Need-enum-told
 enum-told c = search needs

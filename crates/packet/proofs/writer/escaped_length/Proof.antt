@@ -3,8 +3,6 @@ use Rattle.packet.specs.Packet.{escape-byte}
 use Rattle.packet.proofs.Tests.{tests}
 use Rattle.packet.proofs.writer.escaped_length.Statement.{statement}
 use Rattle.packet.proofs.writer.escaped_length.Tie as tie
-use Rattle.packet.proofs.writer.escaped_length.Reads as reads
-use Rattle.packet.proofs.writer.escaped_length.Lts as lts
 
 returns : tie.Need-returns
 unfolding escape-byte

@@ -3,10 +3,6 @@ use Rattle.packet.specs.PacketLaws.{fields-length}
 use borrow.Author.Needs.{needs}
 use Rattle.packet.proofs.writer.packet_length.Statement.{statement}
 use Rattle.packet.proofs.writer.packet_length.Tie as tie
-use Rattle.packet.proofs.writer.packet_length.Reads as reads
-use Rattle.packet.proofs.writer.packet_length.Lts as lts
-use Rattle.packet.proofs.writer.all_escaped_length.Reads as all-escaped-length-reads
-use Rattle.packet.proofs.writer.escaped_length.Reads as escaped-length-reads
 
 escaped-length-requires : tie.Need-escaped-length-requires
 escaped-length-requires c κs = search needs

@@ -6,8 +6,6 @@ use lib.Seq.{lt-length-set}
 use Rattle.packet.specs.PacketLaws.{escape-start, escape-escape, escape-other}
 use Rattle.packet.proofs.writer.put.Statement.{statement}
 use Rattle.packet.proofs.writer.put.Tie as tie
-use Rattle.packet.proofs.writer.put.Reads as reads
-use Rattle.packet.proofs.writer.put.Lts as lts
 
 slice-write-out : tie.Need-slice-write-out
 slice-write-out c = omega (arith, rw (escape-start _ (c .if1 .taken)) at (c .before .pre))

@@ -8,9 +8,6 @@ use Rattle.packet.specs.Packet.{escape-byte, escape}
 use Rattle.packet.proofs.Loops.{escape-more, sets-append, escape-within}
 use Rattle.packet.proofs.writer.put_all.Statement.{statement}
 use Rattle.packet.proofs.writer.put_all.Tie as tie
-use Rattle.packet.proofs.writer.put_all.Reads as reads
-use Rattle.packet.proofs.writer.put_all.Lts as lts
-use Rattle.packet.proofs.writer.put.Reads as put-reads
 
 abbrev Inv-loop : tie.InvT-loop
 Inv-loop bytes out₀ start at₀ i₀ out at i = (i ≤ length bytes) × (at ≡ start + length (escape (take i bytes))) × (out ≡ sets out₀ start (escape (take i bytes)))

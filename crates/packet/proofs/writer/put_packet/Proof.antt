@@ -9,10 +9,6 @@ use Rattle.packet.proofs.Loops.{sets-next, sets-front}
 use Rattle.packet.specs.PacketLaws.{fields-length}
 use Rattle.packet.proofs.writer.put_packet.Statement.{statement}
 use Rattle.packet.proofs.writer.put_packet.Tie as tie
-use Rattle.packet.proofs.writer.put_packet.Reads as reads
-use Rattle.packet.proofs.writer.put_packet.Lts as lts
-use Rattle.packet.proofs.writer.put.Reads as put-reads
-use Rattle.packet.proofs.writer.put_all.Reads as put-all-reads
 
 slice-write-out : tie.Need-slice-write-out
 slice-write-out c =

@@ -8,12 +8,6 @@ use Rattle.packet.proofs.Tests.{tests}
 use borrow.Author.Needs.{needs}
 use Rattle.packet.proofs.writer.write.Statement.{statement}
 use Rattle.packet.proofs.writer.write.Tie as tie
-use Rattle.packet.proofs.writer.write.Reads as reads
-use Rattle.packet.proofs.writer.write.Lts as lts
-use Rattle.packet.proofs.sum.checksum.Reads as checksum-reads
-use Rattle.packet.proofs.writer.command_byte.Reads as command-byte-reads
-use Rattle.packet.proofs.writer.packet_length.Reads as packet-length-reads
-use Rattle.packet.proofs.writer.put_packet.Reads as put-packet-reads
 
 returns : tie.Need-returns
 unfolding written

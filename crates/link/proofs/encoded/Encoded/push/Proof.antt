@@ -1,6 +1,3 @@
-use native.Mathlib.Omega.{arith}
-use mathlib.Core.Path.{_≡_}
-use lib.ListN.{length}
 use borrow.Author.Needs.{needs}
 use Rattle.link.specs.Steps.{pushed}
 use Rattle.link.proofs.encoded.Encoded.push.Statement.{statement}
@@ -10,9 +7,7 @@ slice-aggregate-store : tie.Need-slice-aggregate-store
 slice-aggregate-store c = search needs
 
 store-requires : tie.Need-store-requires
-store-requires c κs =
-    let long : length (c .before .before .before .args .self .bytes) ≡ 37 = search needs in
-    omega arith
+store-requires c κs = search needs
 
 add-t10 : tie.Need-add-t10
 add-t10 c = search needs

@@ -1,0 +1,3 @@
+pub mod Frame
+pub mod Laws
+pub mod View

@@ -1,0 +1,24 @@
+use mathlib.Core.Path.{sym, _∙_}
+use borrow.Author.Tests.{eq-eqb, ne-eqb, not-true, not-false}
+use Rattle.session.specs.Office.{welcomed}
+use borrow.Author.Needs.{needs}
+use Rattle.office.proofs.welcomed.Statement.{statement}
+use Rattle.office.proofs.welcomed.Tie as tie
+
+is-opening-requires : tie.Need-is-opening-requires
+is-opening-requires c κs = search needs
+
+returns : tie.Need-returns
+unfolding welcomed
+returns c = simp (sym (c .before .is-opening .ensures) ∙ not-true (c .before .is-opening .result) (c .if1 .taken))
+
+returns-2 : tie.Need-returns-2
+unfolding welcomed
+returns-2 c = simp (sym (c .before .before .before .is-opening .ensures) ∙ not-false (c .before .before .before .is-opening .result) (c .before .before .if1 .left), ne-eqb _ _ (c .if2 .taken))
+
+returns-3 : tie.Need-returns-3
+unfolding welcomed
+returns-3 c = simp (sym (c .before .before .before .before .is-opening .ensures) ∙ not-false (c .before .before .before .before .is-opening .result) (c .before .before .before .if1 .left), eq-eqb _ _ (c .before .if2 .left))
+
+pub welcomed-spec : {M : Type 1} → statement M
+welcomed-spec = tie.close (tie.spec is-opening-requires returns returns-2 returns-3)

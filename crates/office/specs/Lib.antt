@@ -1,2 +1,0 @@
-pub mod Office
-pub mod View

@@ -1,0 +1,44 @@
+use borrow.Author.Needs.{needs}
+use Rattle.registers.proofs.fields.area_bytes.Statement.{statement}
+use Rattle.registers.proofs.fields.area_bytes.Tie as tie
+
+low-requires : tie.Need-low-requires
+low-requires c κs = search needs
+
+high-requires : tie.Need-high-requires
+high-requires c κs = search needs
+
+low-requires-2 : tie.Need-low-requires-2
+low-requires-2 c κs = search needs
+
+high-requires-2 : tie.Need-high-requires-2
+high-requires-2 c κs = search needs
+
+low-requires-3 : tie.Need-low-requires-3
+low-requires-3 c κs = search needs
+
+high-requires-3 : tie.Need-high-requires-3
+high-requires-3 c κs = search needs
+
+low-requires-4 : tie.Need-low-requires-4
+low-requires-4 c κs = search needs
+
+high-requires-4 : tie.Need-high-requires-4
+high-requires-4 c κs = search needs
+
+returns : tie.Need-returns
+returns c = rw (c .high4 .ensures, c .before .low4 .ensures, c .before .before .high3 .ensures, c .before .before .before .low3 .ensures, c .before .before .before .before .high2 .ensures, c .before .before .before .before .before .low2 .ensures, c .before .before .before .before .before .before .high .ensures, c .before .before .before .before .before .before .before .low .ensures)
+
+pub area-bytes-spec : {M : Type 1} → statement M
+area-bytes-spec =
+    tie.close
+    (tie.spec
+    low-requires
+    high-requires
+    low-requires-2
+    high-requires-2
+    low-requires-3
+    high-requires-3
+    low-requires-4
+    high-requires-4
+    returns)

@@ -1,0 +1,4 @@
+pub mod Block
+pub mod BlockTheorems
+pub mod ByteLaws
+pub mod Commands

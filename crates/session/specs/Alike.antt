@@ -1,0 +1,31 @@
+-- Turns of an end and of its history that are alike, and the tools that both refinements share.
+use Prim.Native.Nat.{ℕ}
+use mathlib.Core.Path.{_≡_, refl, sym}
+use mathlib.Core.Bool.{Bool, true, false, cond}
+use lib.Dec.{eqb}
+use borrow.Author.Tests.{eqb-true, eq-eqb}
+use Rattle.session.specs.Demand3.{answer-of, encoded}
+use Rattle.session.specs.Turn.{Turn}
+
+pub record Alike {A B : Type 0} (R : A → B → Type 0) (t : Turn A) (u : Turn B) : Type 0 where
+  pub states : R (t .state) (u .state)
+  pub same-refusal : t .refusal ≡ u .refusal
+  pub same-frame : t .frame ≡ u .frame
+
+pub same-answer : {A B : Type 0} (R : A → B → Type 0) (t : Turn A) (u : Turn B) → Alike R t u → answer-of t ≡ answer-of u
+same-answer R t u a = λ i. record { refusal = a .same-refusal i; bytes = encoded (a .same-frame i) }
+
+-- a relation between two choices by one test
+pub cond-both : {A B : Type 0} (R : A → B → Type 0) (test : Bool) (a a' : A) (b b' : B) →
+    (test ≡ true → R a b) → (test ≡ false → R a' b') → R (cond test a a') (cond test b b')
+cond-both R true a a' b b' yes-case no-case = yes-case refl
+cond-both R false a a' b b' yes-case no-case = no-case refl
+
+-- tests of which each holds when the other does
+pub same-test : (x y : Bool) → (x ≡ true → y ≡ true) → (y ≡ true → x ≡ true) → x ≡ y
+same-test true y to from = sym (to refl)
+same-test false true to from = from refl
+same-test false false to from = refl
+
+pub eqb-sym : (a b : ℕ) → eqb a b ≡ eqb b a
+eqb-sym a b = same-test (eqb a b) (eqb b a) (λ e. eq-eqb b a (sym (eqb-true a b e))) (λ e. eq-eqb a b (sym (eqb-true b a e)))

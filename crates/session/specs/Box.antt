@@ -1,0 +1,89 @@
+-- The cab box: document 01, "The adjustment link", Box.
+use Prim.Native.Nat.{ℕ, _-_}
+use mathlib.Core.Bool.{Bool, true, false, cond}
+use mathlib.Core.List.{List}
+use mathlib.Core.Option.{Option, none, some}
+use lib.ListN.{replicate}
+use lib.Dec.{eqb, leb, ltb}
+use Rattle.controller.specs.declared.bus.Controller.{Controller}
+use Rattle.controller.specs.Bus as bus
+use Rattle.controller.specs.Run.{run}
+use Rattle.frame.specs.Frame.{Change, Frame, opening, welcome, order, ack, refuse}
+use Rattle.link.specs.Frame.{decode}
+use Rattle.link.specs.View.{frame-limit}
+use Rattle.order.specs.Apply.{order-packet}
+use Rattle.session.specs.declared.Cab.{Cab}
+use Rattle.session.specs.Turn.{Turn, wrote, refused, refused-by}
+
+-- ---- opening a session
+
+abbrev pub cab-of : Controller → ℕ → Bool → ℕ → Cab
+cab-of controller highest active taken =
+    record { controller = controller; highest = record { 0 = highest }; active = active; taken = record { 0 = taken } }
+
+abbrev pub started : ℕ → Cab
+started highest = cab-of bus.fresh highest false 0
+
+abbrev pub welcomed : Cab → Turn Cab
+welcomed c = wrote c (welcome (c .highest .0) (c .controller .settings))
+
+abbrev pub acknowledged : Cab → Turn Cab
+acknowledged c = wrote c (ack (c .highest .0) (c .taken .0))
+
+-- a session above the highest opens with no order taken; the settings stay
+abbrev pub with-session : Cab → ℕ → Cab
+with-session c s = cab-of (c .controller) s true 0
+
+unfoldable pub opened-again : Cab → ℕ → Turn Cab
+opened-again c s =
+    cond (c .active)
+    (cond (eqb s (c .highest .0)) (cond (eqb (c .taken .0) 0) (welcomed c) (acknowledged c)) (refused-by c s 6))
+    (refused-by c s 6)
+
+unfoldable pub opened : Cab → ℕ → Turn Cab
+opened c s = cond (ltb (c .highest .0) s) (welcomed (with-session c s)) (opened-again c s)
+
+-- ---- orders
+
+abbrev pub unsent : Controller → ℕ
+unsent c = c .reply .len - c .reply .sent
+
+-- bytes one by one, then 0x00 until the reply is out
+unfoldable pub sent : Controller → List ℕ → Controller
+sent c bytes = run (run c bytes) (replicate (unsent (run c bytes)) 0x00)
+
+abbrev pub obeyed : Controller → Change → Controller
+obeyed c change = sent c (order-packet (c .settings .backlight) change)
+
+abbrev pub with-order : Cab → ℕ → Change → Cab
+with-order c n change = cab-of (obeyed (c .controller) change) (c .highest .0) (c .active) n
+
+-- an order of the open session: taken before, the next one, or too far ahead
+unfoldable pub ordered-here : Cab → ℕ → Change → Turn Cab
+ordered-here c n change =
+    cond (leb n (c .taken .0)) (acknowledged c)
+    (cond (eqb (n - c .taken .0) 1) (acknowledged (with-order c n change))
+    (refused-by c (c .highest .0) 7))
+
+unfoldable pub ordered : Cab → ℕ → ℕ → Change → Turn Cab
+ordered c s n change =
+    cond (c .active)
+    (cond (eqb s (c .highest .0)) (ordered-here c n change) (refused-by c s 6))
+    (refused-by c s 5)
+
+-- ---- any frame
+
+-- frames that are not for this end are refused as those that are not well formed
+unfoldable pub received : Cab → Option Frame → Turn Cab
+received c none = refused-by c 0 4
+received c (some (opening s)) = opened c s
+received c (some (welcome s σ)) = refused-by c 0 4
+received c (some (order s n change)) = ordered c s n change
+received c (some (ack s k)) = refused-by c 0 4
+received c (some (refuse s r)) = refused-by c 0 4
+
+-- a frame in, with `room` bytes lent for the answer
+unfoldable pub frame-in : Cab → List ℕ → ℕ → Turn Cab
+frame-in c bytes room =
+    cond (ltb room frame-limit) (refused c 1)
+    (received c (decode bytes))

@@ -1,0 +1,43 @@
+// What both ends of the adjustment link hold. Their rules are in specs/, the calls that keep them in cabbox and office.
+use controller::Controller;
+use frame::Change;
+use frame::OrderNumber;
+use frame::SessionId;
+use settings::Settings;
+
+// The cab box. The highest session is the highest opened, or told at a restart; while active, it is the open one, and taken counts its orders run.
+pub struct Cab {
+    pub controller: Controller,
+    pub highest: SessionId,
+    pub active: bool,
+    pub taken: OrderNumber,
+}
+
+pub enum Stage {
+    Never,
+    Opening,
+    Open,
+    Ended,
+}
+
+pub struct Order {
+    pub number: OrderNumber,
+    pub change: Change,
+}
+
+// The office. The settings are its own copy, after all orders issued. The window holds the orders issued and not confirmed.
+pub struct Office {
+    pub stage: Stage,
+    pub session: SessionId,
+    pub settings: Settings,
+    pub issued: OrderNumber,
+    pub confirmed: OrderNumber,
+    pub window: [Order; 8],
+}
+
+// The office's word on its session. Settled: the box has taken every order issued.
+pub enum Progress {
+    Settled,
+    Waiting,
+    Over,
+}

@@ -1,0 +1,86 @@
+-- The fresh settings, and the status bits: document 01, "Status bits".
+use Prim.Native.Nat.{ℕ, _+_, _-_, _/_, _%_}
+use mathlib.Core.Bool.{cond}
+use mathlib.Core.Path.{_≡_, refl}
+use lib.IntN.{pos}
+use lib.Dec.{eqb, leb}
+use Rattle.settings.specs.declared.settings.Settings.{Settings}
+use Rattle.settings.specs.declared.settings.StatusBytes.{StatusBytes}
+use Rattle.settings.specs.declared.settings.Flag.{Flag}
+use Rattle.settings.specs.declared.settings.Flag.the-variants.{
+  Incomplete,
+  NotAvailable,
+  InvalidCommand,
+  OutOfRange,
+  EscapeSeen,
+  WrongLength,
+  BytesIgnored,
+  WrongChecksum,
+}
+
+-- a byte with the bit of this weight set
+unfoldable pub set-bit : ℕ → ℕ → ℕ
+set-bit b w = cond (eqb (b / w % 2) 1) b (cond (leb b (255 - w)) (b + w) b)
+
+abbrev pub in-first : StatusBytes → ℕ → StatusBytes
+in-first s w = record { first = set-bit (s .first) w; second = s .second; third = s .third; fourth = s .fourth }
+
+abbrev pub in-second : StatusBytes → ℕ → StatusBytes
+in-second s w = record { first = s .first; second = set-bit (s .second) w; third = s .third; fourth = s .fourth }
+
+abbrev pub in-fourth : StatusBytes → ℕ → StatusBytes
+in-fourth s w = record { first = s .first; second = s .second; third = s .third; fourth = set-bit (s .fourth) w }
+
+abbrev pub with-flag : StatusBytes → Flag → StatusBytes
+with-flag s Incomplete = in-first s 0x08
+with-flag s NotAvailable = in-first s 0x04
+with-flag s InvalidCommand = in-first s 0x01
+with-flag s OutOfRange = in-second s 0x20
+with-flag s EscapeSeen = in-fourth s 0x80
+with-flag s WrongLength = in-fourth s 0x40
+with-flag s BytesIgnored = in-fourth s 0x20
+with-flag s WrongChecksum = in-fourth s 0x10
+
+abbrev pub with-status : Settings → StatusBytes → Settings
+with-status σ v =
+    record {
+      backlight = σ .backlight;
+      master = σ .master;
+      park = σ .park;
+      splash = σ .splash;
+      strength = σ .strength;
+      heater = σ .heater;
+      bezel = σ .bezel;
+      pixels = σ .pixels;
+      status = v;
+    }
+
+unfoldable pub flagged : Settings → Flag → Settings
+flagged σ flag = with-status σ (with-flag (σ .status) flag)
+
+abbrev pub no-flags : StatusBytes
+no-flags = record { first = 0; second = 0; third = 0; fourth = 0 }
+
+-- the settings but for their status bits
+abbrev pub cleared : Settings → Settings
+cleared σ = with-status σ no-flags
+
+-- a status bit changes no other register
+pub cleared-flagged : (σ : Settings) (f : Flag) → cleared (flagged σ f) ≡ cleared σ
+unfolding flagged
+cleared-flagged σ f = refl
+
+-- master on, all else 0
+abbrev pub fresh : Settings
+fresh =
+    record {
+      backlight = 0;
+      master = 1;
+      park = 0;
+      splash = 0;
+      strength = 0;
+      heater = record { khz = 0; duty = 0 };
+      bezel = record { horizontal = pos 0; vertical = pos 0 };
+      pixels = record { x0 = 0; y0 = 0; x1 = 0; y1 = 0 };
+      status = no-flags;
+    }
