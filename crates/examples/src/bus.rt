@@ -35,7 +35,7 @@ fn pass_buffer(state: State, given: Buffer) -> Passed {
     let controller = state.controller;
     let bytes = given.bytes;
     let count = given.len;
-    pass(controller, scan::part(&bytes, 0, count))
+    pass(controller, text::part(&bytes, 0, count))
 }
 
 // bus BYTES
@@ -55,15 +55,15 @@ pub fn bus(state: State, s: &[u8]) -> Answered {
 fn list(sent: Buffer) -> Buffer {
     let bytes = sent.bytes;
     let count = sent.len;
-    Buffer::new().put_list(scan::part(&bytes, 0, count))
+    Buffer::new().put_list(text::part(&bytes, 0, count))
 }
 
 // exchange W|R BYTES
 pub fn exchange(state: State, arguments: &[u8]) -> Answered {
-    let Way::Of(asked) = packets::read_way(scan::word(arguments)) else {
+    let Way::Of(asked) = packets::read_way(text::word(arguments)) else {
         return calls::unreadable(state);
     };
-    let s = scan::after_word(arguments);
+    let s = text::after_word(arguments);
     let read = scan::read_bytes(s);
     if read.end < s.len() {
         return calls::unreadable(state);
@@ -80,7 +80,7 @@ pub fn exchange(state: State, arguments: &[u8]) -> Answered {
 fn reply_in(asked: Access, sent: Buffer) -> Buffer {
     let bytes = sent.bytes;
     let count = sent.len;
-    let s = scan::part(&bytes, 0, count);
+    let s = text::part(&bytes, 0, count);
     match packet::read_reply(asked, s) {
         ReplyRead::Whole(r) => told(r, s),
         ReplyRead::Refused(r) => packets::refusal(r.number()),

@@ -35,7 +35,7 @@ pub fn restart(state: State, s: &[u8]) -> Answered {
 pub fn frame_in(state: State, s: &[u8]) -> Answered {
     let read = scan::read_bytes(s);
     let at = read.end;
-    frame_in_to(state, read.buffer, scan::part(s, at, s.len()))
+    frame_in_to(state, read.buffer, text::part(s, at, s.len()))
 }
 
 fn frame_in_to(state: State, given: Buffer, end: &[u8]) -> Answered {
@@ -63,7 +63,7 @@ fn answered(state: State, sent: Sent) -> Answered {
 fn send(cab: Cab, given: Buffer, out: &mut [u8], end: &[u8]) -> Sent {
     let bytes = given.bytes;
     let count = given.len;
-    let done = cabbox::frame_in(cab, scan::part(&bytes, 0, count), &mut *out);
+    let done = cabbox::frame_in(cab, text::part(&bytes, 0, count), &mut *out);
     let after = done.cab;
     let verdict = done.verdict;
     let len = done.len;

@@ -6,7 +6,6 @@ use crate::frames;
 use crate::held;
 use crate::office_end;
 use crate::packets;
-use crate::scan;
 use crate::state::State;
 
 // What a call answers, and the state after it.
@@ -24,16 +23,16 @@ pub fn unreadable(state: State) -> Answered {
 
 // A call, from the state of the line before or, behind the word fresh, from the first one.
 pub fn run(state: State, call: &[u8]) -> Answered {
-    if check::same(scan::word(call), b"fresh") {
-        return named(State::fresh(), scan::after_word(call));
+    if check::same(text::word(call), b"fresh") {
+        return named(State::fresh(), text::after_word(call));
     }
     named(state, call)
 }
 
 // The call that the first word names.
 fn named(state: State, call: &[u8]) -> Answered {
-    let name = scan::word(call);
-    let arguments = scan::after_word(call);
+    let name = text::word(call);
+    let arguments = text::after_word(call);
     if check::same(name, b"bus") {
         return bus::bus(state, arguments);
     }

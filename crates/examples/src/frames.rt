@@ -1,7 +1,6 @@
 // The calls that encode and decode a frame.
 use crate::buffer::Buffer;
 use crate::scan;
-use crate::scan::Byte;
 use crate::scan::Long;
 use crate::scan::Short;
 use controller::Controller;
@@ -10,22 +9,23 @@ use frame::Frame;
 use frame::Kind;
 use frame::OrderNumber;
 use frame::SessionId;
+use text::HexByte;
 
 // encode FRAME
 pub fn encode(s: &[u8]) -> Buffer {
     let e = link::encode(asked(s));
     let bytes = e.bytes;
     let count = e.len;
-    Buffer::new().put_list(scan::part(&bytes, 0, count))
+    Buffer::new().put_list(text::part(&bytes, 0, count))
 }
 
 // The frame that a text names; if it names none, the malformed one.
 fn asked(s: &[u8]) -> Frame {
-    let rest = scan::after_word(s);
-    let Long::Of(session) = scan::read_long(scan::word(rest)) else {
+    let rest = text::after_word(s);
+    let Long::Of(session) = scan::read_long(text::word(rest)) else {
         return Frame::malformed();
     };
-    of_session(scan::word(s), SessionId(session), scan::after_word(rest))
+    of_session(text::word(s), SessionId(session), text::after_word(rest))
 }
 
 fn of_session(kind: &[u8], session: SessionId, s: &[u8]) -> Frame {
@@ -35,10 +35,10 @@ fn of_session(kind: &[u8], session: SessionId, s: &[u8]) -> Frame {
     if check::same(kind, b"welcome") {
         return Frame::welcome(session, Controller::fresh().settings());
     }
-    let Short::Of(n) = scan::read_short(scan::word(s)) else {
+    let Short::Of(n) = scan::read_short(text::word(s)) else {
         return Frame::malformed();
     };
-    numbered(kind, session, n, scan::after_word(s))
+    numbered(kind, session, n, text::after_word(s))
 }
 
 fn numbered(kind: &[u8], session: SessionId, n: u16, s: &[u8]) -> Frame {
@@ -62,8 +62,8 @@ fn refuse(session: SessionId, n: u16) -> Frame {
 }
 
 fn order(session: SessionId, number: OrderNumber, s: &[u8]) -> Frame {
-    let way = scan::word(s);
-    let rest = scan::after_word(s);
+    let way = text::word(s);
+    let rest = text::after_word(s);
     if check::same(way, b"command") {
         return order_command(session, number, rest);
     }
@@ -80,17 +80,17 @@ fn order(session: SessionId, number: OrderNumber, s: &[u8]) -> Frame {
 }
 
 fn order_command(session: SessionId, number: OrderNumber, s: &[u8]) -> Frame {
-    let Byte::Of(command) = scan::read_byte(scan::word(s)) else {
+    let HexByte::Of(command) = text::hex_byte(text::word(s)) else {
         return Frame::malformed();
     };
-    let rest = scan::after_word(s);
+    let rest = text::after_word(s);
     let read = scan::read_bytes(rest);
     if read.end < rest.len() {
         return Frame::malformed();
     }
     let bytes = read.buffer.bytes;
     let count = read.buffer.len;
-    let change = Change::command(command, scan::part(&bytes, 0, count));
+    let change = Change::command(command, text::part(&bytes, 0, count));
     Frame::order(session, number, change)
 }
 
@@ -102,7 +102,7 @@ pub fn decode(s: &[u8]) -> Buffer {
     }
     let bytes = read.buffer.bytes;
     let count = read.buffer.len;
-    told(link::decode(scan::part(&bytes, 0, count)))
+    told(link::decode(text::part(&bytes, 0, count)))
 }
 
 fn told(frame: Frame) -> Buffer {

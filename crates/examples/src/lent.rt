@@ -13,19 +13,19 @@ pub fn length(end: &[u8]) -> Number {
     if end.len() == 0 {
         return Number::Of(FRAME_LIMIT);
     }
-    if check::same(scan::word(end), b"into") {
-        return scan::read_decimal(scan::after_word(end));
+    if check::same(text::word(end), b"into") {
+        return scan::read_decimal(text::after_word(end));
     }
     Number::Invalid
 }
 
 // The first len bytes of lent and, behind into, how many after them are as they were.
 pub fn put_wrote(answer: Buffer, lent: &[u8], len: usize, end: &[u8]) -> Buffer {
-    let told = put_frame(answer, scan::part(lent, 0, len));
+    let told = put_frame(answer, text::part(lent, 0, len));
     if end.len() == 0 {
         return told;
     }
-    packets::put_untouched(told, scan::part(lent, len, lent.len()))
+    packets::put_untouched(told, text::part(lent, len, lent.len()))
 }
 
 fn put_frame(answer: Buffer, frame: &[u8]) -> Buffer {

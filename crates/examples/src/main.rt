@@ -61,7 +61,7 @@ fn unread(t: Tally) -> Tally {
 fn compare(t: Tally, came: Buffer, expected: &[u8]) -> Tally {
     let bytes = came.bytes;
     let n = came.len;
-    let answer = scan::part(&bytes, 0, n);
+    let answer = text::part(&bytes, 0, n);
     if answer.len() == 0 {
         return unread(t);
     }
@@ -104,8 +104,8 @@ fn table(s: &[u8]) -> Tally {
     };
     let mut at: usize = 0;
     while at < s.len() {
-        let end = scan::find(s, at, b'\n');
-        p = line(p, scan::part(s, at, end));
+        let end = text::find(s, at, b'\n');
+        p = line(p, text::part(s, at, end));
         if s.len() <= end {
             return p.tally;
         }

@@ -7,7 +7,6 @@ use crate::lent::LENT;
 use crate::packets;
 use crate::packets::UNTOUCHED;
 use crate::scan;
-use crate::scan::Byte;
 use crate::scan::Long;
 use crate::scan::Number;
 use crate::scan::Short;
@@ -22,6 +21,7 @@ use office::Received;
 use office::Turned;
 use session::Office;
 use session::Progress;
+use text::HexByte;
 
 // A call that may write a frame.
 enum Writing {
@@ -40,8 +40,8 @@ struct Sent {
 }
 
 pub fn run(state: State, s: &[u8]) -> Answered {
-    let name = scan::word(s);
-    let arguments = scan::after_word(s);
+    let name = text::word(s);
+    let arguments = text::after_word(s);
     if check::same(name, b"open") {
         return open(state, arguments);
     }
@@ -107,23 +107,23 @@ fn said(verdict: Verdict) -> Buffer {
 
 // office open S
 fn open(state: State, s: &[u8]) -> Answered {
-    let Long::Of(session) = scan::read_long(scan::word(s)) else {
+    let Long::Of(session) = scan::read_long(text::word(s)) else {
         return calls::unreadable(state);
     };
     run_writing(
         state,
         Writing::Open(session),
         Buffer::new(),
-        scan::after_word(s),
+        text::after_word(s),
     )
 }
 
 // office issue raise N, lower N or command HH BYTES
 fn issue(state: State, s: &[u8]) -> Answered {
-    let way = scan::word(s);
-    let rest = scan::after_word(s);
-    let first = scan::word(rest);
-    let end = scan::after_word(rest);
+    let way = text::word(s);
+    let rest = text::after_word(s);
+    let first = text::word(rest);
+    let end = text::after_word(rest);
     if check::same(way, b"command") {
         return issue_command(state, first, end);
     }
@@ -140,25 +140,25 @@ fn issue(state: State, s: &[u8]) -> Answered {
 }
 
 fn issue_command(state: State, first: &[u8], s: &[u8]) -> Answered {
-    let Byte::Of(command) = scan::read_byte(first) else {
+    let HexByte::Of(command) = text::hex_byte(first) else {
         return calls::unreadable(state);
     };
     let read = scan::read_bytes(s);
     let at = read.end;
-    let end = scan::part(s, at, s.len());
+    let end = text::part(s, at, s.len());
     run_writing(state, Writing::Command(command), read.buffer, end)
 }
 
 // office resend N
 fn resend(state: State, s: &[u8]) -> Answered {
-    let Short::Of(number) = scan::read_short(scan::word(s)) else {
+    let Short::Of(number) = scan::read_short(text::word(s)) else {
         return calls::unreadable(state);
     };
     run_writing(
         state,
         Writing::Resend(number),
         Buffer::new(),
-        scan::after_word(s),
+        text::after_word(s),
     )
 }
 
@@ -179,7 +179,7 @@ fn run_writing(state: State, call: Writing, given: Buffer, end: &[u8]) -> Answer
 fn write_to(office: Office, call: Writing, given: Buffer, out: &mut [u8], end: &[u8]) -> Sent {
     let bytes = given.bytes;
     let count = given.len;
-    let done = called(office, call, scan::part(&bytes, 0, count), &mut *out);
+    let done = called(office, call, text::part(&bytes, 0, count), &mut *out);
     turned(done, out, end)
 }
 
@@ -223,7 +223,7 @@ fn taken(start: Office) -> Office {
     let e = link::encode(Frame::ack(session, number));
     let bytes = e.bytes;
     let len = e.len;
-    let got = office::frame_in(office, scan::part(&bytes, 0, len));
+    let got = office::frame_in(office, text::part(&bytes, 0, len));
     let after = got.office;
     after
 }
@@ -254,7 +254,7 @@ fn frame_in(state: State, s: &[u8]) -> Answered {
 fn received(office: Office, given: Buffer) -> Received {
     let bytes = given.bytes;
     let count = given.len;
-    office::frame_in(office, scan::part(&bytes, 0, count))
+    office::frame_in(office, text::part(&bytes, 0, count))
 }
 
 fn judged(verdict: Verdict) -> Buffer {

@@ -1,12 +1,12 @@
 // The calls of the packet writer and of the reply reader.
 use crate::buffer::Buffer;
 use crate::scan;
-use crate::scan::Byte;
 use crate::scan::Number;
 use packet::Access;
 use packet::Reply;
 use packet::ReplyRead;
 use packet::Written;
+use text::HexByte;
 
 pub enum Way {
     Of(Access),
@@ -32,26 +32,26 @@ pub fn refusal(n: u8) -> Buffer {
 
 // write ID W|R BYTES, or write ID W|R BYTES into N
 pub fn write(arguments: &[u8]) -> Buffer {
-    let Byte::Of(id) = scan::read_byte(scan::word(arguments)) else {
+    let HexByte::Of(id) = text::hex_byte(text::word(arguments)) else {
         return Buffer::new();
     };
-    let rest = scan::after_word(arguments);
-    let Way::Of(access) = read_way(scan::word(rest)) else {
+    let rest = text::after_word(arguments);
+    let Way::Of(access) = read_way(text::word(rest)) else {
         return Buffer::new();
     };
-    write_bytes(id, access, scan::after_word(rest))
+    write_bytes(id, access, text::after_word(rest))
 }
 
 fn write_bytes(id: u8, access: Access, s: &[u8]) -> Buffer {
     let read = scan::read_bytes(s);
     let end = read.end;
-    let rest = scan::part(s, end, s.len());
+    let rest = text::part(s, end, s.len());
     if rest.len() == 0 {
         let mut lent = [UNTOUCHED; 516];
         return packet_written(id, access, read.buffer, &mut lent);
     }
-    if check::same(scan::word(rest), b"into") {
-        return write_into(id, access, read.buffer, scan::after_word(rest));
+    if check::same(text::word(rest), b"into") {
+        return write_into(id, access, read.buffer, text::after_word(rest));
     }
     Buffer::new()
 }
@@ -59,12 +59,12 @@ fn write_bytes(id: u8, access: Access, s: &[u8]) -> Buffer {
 fn write_to(id: u8, access: Access, given: Buffer, lent: &mut [u8]) -> Written {
     let bytes = given.bytes;
     let count = given.len;
-    packet::write(id, access, scan::part(&bytes, 0, count), &mut *lent)
+    packet::write(id, access, text::part(&bytes, 0, count), &mut *lent)
 }
 
 fn packet_written(id: u8, access: Access, given: Buffer, lent: &mut [u8]) -> Buffer {
     match write_to(id, access, given, &mut *lent) {
-        Written::Length(n) => Buffer::new().put_list(scan::part(lent, 0, n)),
+        Written::Length(n) => Buffer::new().put_list(text::part(lent, 0, n)),
         Written::Refused(r) => refusal(r.number()),
     }
 }
@@ -83,7 +83,7 @@ fn write_into(id: u8, access: Access, given: Buffer, s: &[u8]) -> Buffer {
 // How many bytes were written, and how many after them are as they were.
 fn lengths_written(id: u8, access: Access, given: Buffer, lent: &mut [u8]) -> Buffer {
     match write_to(id, access, given, &mut *lent) {
-        Written::Length(n) => put_untouched(length(n), scan::part(lent, n, lent.len())),
+        Written::Length(n) => put_untouched(length(n), text::part(lent, n, lent.len())),
         Written::Refused(r) => put_untouched(refusal(r.number()), lent),
     }
 }
@@ -113,10 +113,10 @@ pub fn put_untouched(answer: Buffer, rest: &[u8]) -> Buffer {
 
 // reply W|R BYTES
 pub fn reply(arguments: &[u8]) -> Buffer {
-    let Way::Of(asked) = read_way(scan::word(arguments)) else {
+    let Way::Of(asked) = read_way(text::word(arguments)) else {
         return Buffer::new();
     };
-    let s = scan::after_word(arguments);
+    let s = text::after_word(arguments);
     let read = scan::read_bytes(s);
     if read.end < s.len() {
         return Buffer::new();
@@ -127,7 +127,7 @@ pub fn reply(arguments: &[u8]) -> Buffer {
 fn reply_read(asked: Access, given: Buffer) -> Buffer {
     let bytes = given.bytes;
     let count = given.len;
-    let s = scan::part(&bytes, 0, count);
+    let s = text::part(&bytes, 0, count);
     match packet::read_reply(asked, s) {
         ReplyRead::Whole(r) => reply_whole(r, s),
         ReplyRead::Refused(r) => refusal(r.number()),
@@ -148,7 +148,7 @@ pub fn response(r: Reply) -> Buffer {
 pub fn found(r: Reply, s: &[u8]) -> &[u8] {
     let start = r.start;
     let count = r.count;
-    scan::part(scan::part(s, start, s.len()), 0, count)
+    text::part(text::part(s, start, s.len()), 0, count)
 }
 
 fn put_found(answer: Buffer, found: &[u8]) -> Buffer {

@@ -1,11 +1,7 @@
-// Reading a line: its columns, words, bytes and numbers.
+// Reading a line: its columns, bytes and numbers.
 use crate::buffer::Buffer;
-ghost use Prim.Native.Nat.{_≤_};
-
-pub enum Byte {
-    Of(u8),
-    Invalid,
-}
+use text::DecimalRead;
+use text::HexByte;
 
 pub enum Short {
     Of(u16),
@@ -34,62 +30,18 @@ pub struct Bytes {
     pub end: usize,
 }
 
-// s[a..e], or nothing where s has no such part.
-pub fn part(s: &[u8], a: usize, e: usize) -> &[u8] {
-    if s.len() < e {
-        return &s[..0];
-    }
-    if e < a {
-        return &s[..0];
-    }
-    &s[a..e]
-}
-
-// The first place from start on where b stands, or the end.
-pub fn find(s: &[u8], start: usize, b: u8) -> usize
-    ensures { λ r. ⌜ start ≤ r ⌝ }
-{
-    let mut i = start;
-    while i < s.len() {
-        if s[i] == b {
-            return i;
-        }
-        i += 1;
-    }
-    i
-}
-
 // What stands before the first b, or all.
 pub fn before(s: &[u8], b: u8) -> &[u8] {
-    part(s, 0, find(s, 0, b))
+    text::part(s, 0, text::find(s, 0, b))
 }
 
 // What stands after the first b, or nothing.
 pub fn after(s: &[u8], b: u8) -> &[u8] {
-    let at = find(s, 0, b);
+    let at = text::find(s, 0, b);
     if at < s.len() {
-        return part(s, at + 1, s.len());
+        return text::part(s, at + 1, s.len());
     }
-    part(s, 0, 0)
-}
-
-pub fn word(s: &[u8]) -> &[u8] {
-    before(s, b' ')
-}
-
-pub fn after_word(s: &[u8]) -> &[u8] {
-    after(s, b' ')
-}
-
-fn leading_spaces(s: &[u8]) -> usize {
-    let mut i: usize = 0;
-    while i < s.len() {
-        if s[i] != b' ' {
-            return i;
-        }
-        i += 1;
-    }
-    i
+    text::part(s, 0, 0)
 }
 
 fn end_of_text(s: &[u8]) -> usize {
@@ -104,27 +56,15 @@ fn end_of_text(s: &[u8]) -> usize {
 }
 
 pub fn trim(s: &[u8]) -> &[u8] {
-    part(s, leading_spaces(s), end_of_text(s))
+    let t = text::skip_spaces(s);
+    text::part(t, 0, end_of_text(t))
 }
 
 pub fn read_decimal(s: &[u8]) -> Number {
-    if s.len() == 0 {
+    let DecimalRead::Of(n) = text::decimal(s) else {
         return Number::Invalid;
-    }
-    let mut n: usize = 0;
-    let mut i: usize = 0;
-    while i < s.len() {
-        let d = digit_value(s[i]);
-        if 9 < d {
-            return Number::Invalid;
-        }
-        if 999999999 < n {
-            return Number::Invalid;
-        }
-        n = 10 * n + (d as usize);
-        i += 1;
-    }
-    Number::Of(n)
+    };
+    Number::Of(n as usize)
 }
 
 pub fn read_short(s: &[u8]) -> Short {
@@ -147,38 +87,6 @@ pub fn read_long(s: &[u8]) -> Long {
     Long::Of(n as u32)
 }
 
-// 16 where c is no digit.
-fn digit_value(c: u8) -> u8 {
-    if c < b'0' {
-        return 16;
-    }
-    if c <= b'9' {
-        return c - b'0';
-    }
-    if c < b'A' {
-        return 16;
-    }
-    if c <= b'F' {
-        return c - b'A' + 10;
-    }
-    16
-}
-
-pub fn read_byte(s: &[u8]) -> Byte {
-    if s.len() != 2 {
-        return Byte::Invalid;
-    }
-    let high = digit_value(s[0]);
-    let low = digit_value(s[1]);
-    if 15 < high {
-        return Byte::Invalid;
-    }
-    if 15 < low {
-        return Byte::Invalid;
-    }
-    Byte::Of(16 * high + low)
-}
-
 // What follows the two digits: nothing, which is once, or *COUNT.
 fn read_times(s: &[u8]) -> usize {
     if s.len() == 0 {
@@ -187,19 +95,19 @@ fn read_times(s: &[u8]) -> usize {
     if s[0] != b'*' {
         return 0;
     }
-    match read_decimal(part(s, 1, s.len())) {
+    match read_decimal(text::part(s, 1, s.len())) {
         Number::Of(n) => n,
         Number::Invalid => 0,
     }
 }
 
 fn read_run(s: &[u8]) -> Run {
-    match read_byte(part(s, 0, 2)) {
-        Byte::Of(b) => Run {
+    match text::hex_byte(text::part(s, 0, 2)) {
+        HexByte::Of(b) => Run {
             byte: b,
-            times: read_times(part(s, 2, s.len())),
+            times: read_times(text::part(s, 2, s.len())),
         },
-        Byte::Invalid => Run { byte: 0, times: 0 },
+        HexByte::NotHex => Run { byte: 0, times: 0 },
     }
 }
 
@@ -208,8 +116,8 @@ pub fn read_bytes(s: &[u8]) -> Bytes {
     let mut buffer = Buffer::new();
     let mut at: usize = 0;
     while at < s.len() {
-        let end = find(s, at, b' ');
-        let run = read_run(part(s, at, end));
+        let end = text::find(s, at, b' ');
+        let run = read_run(text::part(s, at, end));
         let next = buffer.put_repeat(run.byte, run.times);
         if next.len == buffer.len {
             return Bytes { buffer, end: at };

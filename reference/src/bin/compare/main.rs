@@ -1,0 +1,235 @@
+//! `compare PROGRAM [CALLS [SEED]]`: random scripts, answered by another `simulate`
+//! and by the reference, line against line.
+
+#![forbid(unsafe_code)]
+
+mod check;
+mod generate;
+mod lines;
+mod rng;
+mod run;
+mod shrink;
+mod traffic;
+
+use std::env;
+use std::fs;
+use std::io;
+use std::path::{Path, PathBuf};
+use std::process::ExitCode;
+
+use generate::Script;
+use rng::Rng;
+
+const CALLS: usize = 200_000;
+const SEED: u64 = 1;
+/// From this many calls on, a session of 65535 orders is run besides.
+const ENOUGH_FOR_LONGEST: usize = 100_000;
+const MOST_PRINTED: usize = 1000;
+
+fn main() -> ExitCode {
+    let Some((program, calls, seed)) = arguments() else {
+        eprintln!("usage: compare PROGRAM [CALLS [SEED]]");
+        return ExitCode::from(2);
+    };
+    match compare(&program, calls, seed) {
+        Ok(Some(compared)) => {
+            println!("{compared} calls compared, 0 differences");
+            ExitCode::SUCCESS
+        }
+        Ok(None) => ExitCode::FAILURE,
+        Err(error) => {
+            eprintln!("{}: {error}", program.display());
+            ExitCode::from(2)
+        }
+    }
+}
+
+fn arguments() -> Option<(PathBuf, usize, u64)> {
+    let mut arguments = env::args_os().skip(1);
+    let program = arguments.next()?.into();
+    let mut number = |default: u64| match arguments.next() {
+        Some(text) => text.to_str()?.parse().ok(),
+        None => Some(default),
+    };
+    let calls = number(CALLS as u64)? as usize;
+    let seed = number(SEED)?;
+    arguments.next().is_none().then_some((program, calls, seed))
+}
+
+/// The number of calls compared, or none once a difference has been printed.
+fn compare(program: &Path, calls: usize, seed: u64) -> io::Result<Option<usize>> {
+    let mut compared = 0;
+    let mut number = 0;
+    while compared < calls {
+        number += 1;
+        let mut rng = Rng::new(seed, number);
+        let length = rng.between(2000, 5000).min(calls - compared);
+        let script = generate::script(rng, length);
+        compared += script.calls;
+        if !agrees(program, &script, &format!("script {number} of seed {seed}"))? {
+            return Ok(None);
+        }
+    }
+    if calls >= ENOUGH_FOR_LONGEST {
+        let script = generate::longest_session(Rng::new(seed, 0));
+        compared += script.calls;
+        if !agrees(program, &script, &format!("longest session of seed {seed}"))? {
+            return Ok(None);
+        }
+    }
+    Ok(Some(compared))
+}
+
+fn agrees(program: &Path, script: &Script, name: &str) -> io::Result<bool> {
+    match check::closing_sentences(&script.lines) {
+        Ok(covered) => assert!(
+            !script.allowed || covered == script.lines.len(),
+            "{name} is no allowed list"
+        ),
+        Err((line, _)) => {
+            let failing = |lines: &[Vec<u8>]| check::closing_sentences(lines).err().map(|(line, _)| line);
+            let short = shrink::shortest(&script.lines[..=line], failing);
+            println!("{name}: demand 3 does not hold of the reference itself");
+            print_script(&short);
+            if let Err((line, what)) = check::closing_sentences(&short) {
+                println!("after line {}: {what}", line + 1);
+            }
+            return Ok(false);
+        }
+    }
+
+    let newline = script.final_newline;
+    let Some(found) = run::difference(program, &script.lines, newline)? else {
+        return Ok(true);
+    };
+    // Without a newline at its end only the whole script is the same script.
+    let shorter = |lines: &[Vec<u8>], newline| run::difference(program, lines, newline).ok().flatten();
+    let ends_with = [true, newline]
+        .into_iter()
+        .find(|newline| shorter(&script.lines[..=found.line], *newline).is_some());
+    let (short, newline) = match ends_with {
+        Some(newline) => {
+            let failing = |lines: &[Vec<u8>]| shorter(lines, newline).map(|difference| difference.line);
+            (shrink::shortest(&script.lines[..=found.line], failing), newline)
+        }
+        None => (script.lines.clone(), newline),
+    };
+    let found = shorter(&short, newline).unwrap_or(found);
+
+    let note = if newline { "" } else { ", no newline at its end" };
+    println!(
+        "difference in {name} ({} lines, cut to {}{note}):",
+        script.lines.len(),
+        short.len()
+    );
+    print_script(&short);
+    println!("at line {}", found.line + 1);
+    println!("reference: {}", found.reference);
+    println!("program:   {}", found.program);
+    Ok(false)
+}
+
+/// Prints the script; of a very long one the ends, and all of it to a file.
+fn print_script(lines: &[Vec<u8>]) {
+    println!("--- script");
+    if lines.len() <= MOST_PRINTED {
+        print_lines(lines);
+    } else {
+        let file = env::temp_dir().join("compare-script.txt");
+        print_lines(&lines[..20]);
+        match fs::write(&file, lines.join(&b'\n')) {
+            Ok(()) => println!("... (whole script: {})", file.display()),
+            Err(error) => println!("... (whole script not written: {error})"),
+        }
+        print_lines(&lines[lines.len() - 20..]);
+    }
+    println!("--- end of script");
+}
+
+fn print_lines(lines: &[Vec<u8>]) {
+    for line in lines {
+        println!("{}", line.escape_ascii());
+    }
+}
+
+#[cfg(test)]
+mod tests {
+    use std::collections::BTreeSet;
+
+    use reference::script::{Answer, Simulation};
+
+    use super::*;
+
+    /// First word of a line, and the refusal it got.
+    fn refusals(scripts: impl Iterator<Item = Script>) -> BTreeSet<(String, u8)> {
+        let mut seen = BTreeSet::new();
+        for script in scripts {
+            let mut simulation = Simulation::new();
+            for line in &script.lines {
+                let answer = simulation.line(line);
+                if let Some(Answer::Refused(refusal) | Answer::RefusedFrame(refusal, _)) = answer {
+                    let first = line.split(|byte| *byte == b' ').next().unwrap_or_default();
+                    seen.insert((first.escape_ascii().to_string(), refusal.number()));
+                }
+            }
+        }
+        seen
+    }
+
+    #[test]
+    fn every_refusal_is_met() {
+        let random = (1..40).map(|number| generate::script(Rng::new(SEED, number), 3000));
+        let longest = std::iter::once_with(|| generate::longest_session(Rng::new(SEED, 0)));
+        let seen = refusals(random.chain(longest));
+        for (first, numbers) in [
+            ("open", &[1, 6][..]),
+            ("reopen", &[1, 13]),
+            ("raise", &[1, 8, 9, 10]),
+            ("lower", &[1, 8, 10]),
+            ("command", &[1, 2, 8, 9, 10]),
+            ("resend", &[1, 10, 13]),
+            ("box", &[1, 4, 5, 6, 7]),
+            ("to-box", &[1, 5, 6, 7]),
+            ("office", &[4]),
+            ("packet", &[2, 3]),
+            ("reply", &[11, 12]),
+        ] {
+            for number in numbers {
+                assert!(seen.contains(&(first.to_string(), *number)), "{first} {number}");
+            }
+        }
+    }
+
+    #[test]
+    fn closing_sentences_hold() {
+        let scripts = (1..40).map(|number| generate::script(Rng::new(SEED, number), 3000));
+        let allowed: Vec<Script> = scripts.filter(|script| script.allowed).collect();
+        assert!(allowed.len() > 5);
+        for script in allowed {
+            assert_eq!(check::closing_sentences(&script.lines), Ok(script.lines.len()));
+        }
+    }
+
+    #[test]
+    fn shrinking_renumbers_deliveries() {
+        let lines = [
+            "open 1",
+            "open 2",
+            "show",
+            "open 3",
+            "to-box 3",
+            "to-office 1",
+            "show",
+        ];
+        let lines: Vec<Vec<u8>> = lines.iter().map(|line| line.as_bytes().to_vec()).collect();
+        let opens = |lines: &[Vec<u8>]| {
+            let mut simulation = Simulation::new();
+            lines.iter().position(|line| {
+                simulation.line(line);
+                simulation.office().settings().is_some()
+            })
+        };
+        let short = shrink::shortest(&lines, opens);
+        assert_eq!(short.join(&b' '), b"open 3 to-box 1 to-office 1");
+    }
+}

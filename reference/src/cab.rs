@@ -1,0 +1,111 @@
+//! The cab box.
+
+use crate::controller::Controller;
+use crate::link::{Frame, LONGEST_FRAME, Order};
+use crate::refusal::Refusal;
+
+#[derive(Clone, Copy, Debug, PartialEq, Eq)]
+pub struct Open {
+    pub session: u32,
+    pub taken: u16,
+}
+
+#[derive(Clone, Debug)]
+pub struct Cab {
+    controller: Controller,
+    highest: u32,
+    open: Option<Open>,
+}
+
+/// A refusal by the box, with the REFUSE it wrote for 4 to 7.
+#[derive(Clone, Debug, PartialEq, Eq)]
+pub struct Refused {
+    pub refusal: Refusal,
+    pub frame: Option<Vec<u8>>,
+}
+
+impl Cab {
+    pub fn restarted(highest: u32) -> Cab {
+        Cab {
+            controller: Controller::fresh(),
+            highest,
+            open: None,
+        }
+    }
+
+    pub fn controller(&self) -> &Controller {
+        &self.controller
+    }
+
+    pub fn highest(&self) -> u32 {
+        self.highest
+    }
+
+    pub fn open(&self) -> Option<Open> {
+        self.open
+    }
+
+    pub fn frame_in(&mut self, bytes: &[u8], room: usize) -> Result<Vec<u8>, Refused> {
+        if room < LONGEST_FRAME {
+            return Err(Refused {
+                refusal: Refusal::ShortOutput,
+                frame: None,
+            });
+        }
+        let (session, answer) = match Frame::from_bytes(bytes) {
+            Some(Frame::Open { session }) => (session, self.opening(session)),
+            Some(Frame::Order {
+                session,
+                number,
+                order,
+            }) => (session, self.order(session, number, &order)),
+            _ => (0, Err(Refusal::NotWellFormed)),
+        };
+        match answer {
+            Ok(frame) => Ok(frame.to_bytes()),
+            Err(refusal) => Err(Refused {
+                refusal,
+                frame: Some(Frame::Refuse { session, refusal }.to_bytes()),
+            }),
+        }
+    }
+
+    fn opening(&mut self, session: u32) -> Result<Frame, Refusal> {
+        if session > self.highest {
+            self.highest = session;
+            self.open = Some(Open { session, taken: 0 });
+        }
+        match self.open {
+            Some(Open { session: open, taken }) if open == session => Ok(if taken == 0 {
+                Frame::Welcome {
+                    session,
+                    settings: *self.controller.settings(),
+                }
+            } else {
+                Frame::Ack {
+                    session,
+                    count: taken,
+                }
+            }),
+            _ => Err(Refusal::WrongSession),
+        }
+    }
+
+    fn order(&mut self, session: u32, number: u16, order: &Order) -> Result<Frame, Refusal> {
+        let open = self.open.as_mut().ok_or(Refusal::NoneOpen)?;
+        if open.session != session {
+            return Err(Refusal::WrongSession);
+        }
+        if number > open.taken {
+            if number - open.taken > 1 {
+                return Err(Refusal::BeyondNext);
+            }
+            order.run(&mut self.controller);
+            open.taken = number;
+        }
+        Ok(Frame::Ack {
+            session,
+            count: open.taken,
+        })
+    }
+}
