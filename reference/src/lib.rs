@@ -1,4 +1,4 @@
-//! A second reading of `01-scope.md`: controller, packet writer, reply reader,
+//! A second reading of document 01: controller, packet writer, reply reader,
 //! cab box, office end, and the script interpreter that drives them.
 
 #![forbid(unsafe_code)]

@@ -1,4 +1,4 @@
-//! The fixed examples of `01-scope.md` and the built ones of DLPU057A section 4,
+//! The fixed examples of document 01 and the built ones of DLPU057A section 4,
 //! with the bytes printed there.
 
 use reference::cab::{Cab, Refused};
