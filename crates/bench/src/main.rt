@@ -1,8 +1,7 @@
 // A stand-in for the test bench: reads the host's bytes from standard input, and writes to standard output the byte
 // that the controller sends for each, until the input ends.
-mod bytes;
-
 use controller::Controller;
+use controller::exchange_all;
 use libc::STDIN_FILENO;
 use libc::STDOUT_FILENO;
 
@@ -23,7 +22,7 @@ fn answer_read(controller: Controller) -> Turn {
     }
     let n = io::count(got, &input);
     let mut output = io::buffer();
-    let after = bytes::exchange_all(controller, &input[..n], &mut output);
+    let after = exchange_all(controller, &input[..n], &mut output);
     Turn {
         controller: after,
         goes_on: io::write_all(STDOUT_FILENO, &output[0..n]),

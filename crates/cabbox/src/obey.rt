@@ -1,38 +1,34 @@
 // An order at the controller.
 use controller::Controller;
+use controller::exchange_all;
 use frame::Change;
+use packet::PACKET_LIMIT;
 ghost use mathlib.Core.Path.{_≡_};
-ghost use lib.ListN.{replicate};
+ghost use Prim.Native.Nat.{_≤_};
+ghost use lib.ListN.{length, replicate};
+ghost use Rattle.packet.specs.Packet.{packet-limit};
 ghost use Rattle.controller.specs.Run.{run};
 ghost use Rattle.frame.specs.View.{asked};
 ghost use Rattle.session.specs.Box as spec;
 
-fn run_bytes(start: Controller, bytes: &[u8]) -> Controller
-    ensures { λ r. ⌜ r ≡ run start (now (bytes .entry)) ⌝ }
+// The most bytes of a reply that a controller value can have unsent.
+const UNSENT_LIMIT: usize = 255;
+
+fn run_packet(controller: Controller, bytes: &[u8]) -> Controller
+    requires { ⌜ length (now bytes) ≤ packet-limit ⌝ }
+    ensures { λ r. ⌜ r ≡ run controller (now (bytes .entry)) ⌝ }
 {
-    let mut controller = start;
-    let mut i: usize = 0;
-    while i < bytes.len() {
-        let one = controller.exchange(bytes[i]);
-        let next = one.controller;
-        controller = next;
-        i += 1;
-    }
-    controller
+    let mut out = [0; PACKET_LIMIT];
+    exchange_all(controller, bytes, &mut out)
 }
 
-fn run_zeros(start: Controller, count: u8) -> Controller
-    ensures { λ r. ⌜ r ≡ run start (replicate count 0x00) ⌝ }
+fn run_zeros(controller: Controller, count: u8) -> Controller
+    ensures { λ r. ⌜ r ≡ run controller (replicate count 0x00) ⌝ }
 {
-    let mut controller = start;
-    let mut i: u8 = 0;
-    while i < count {
-        let one = controller.exchange(0x00);
-        let next = one.controller;
-        controller = next;
-        i += 1;
-    }
-    controller
+    let zeros = [0; UNSENT_LIMIT];
+    let n = count as usize;
+    let mut out = [0; UNSENT_LIMIT];
+    exchange_all(controller, &zeros[..n], &mut out)
 }
 
 // How many bytes of the reply are unsent.
@@ -47,9 +43,10 @@ fn unsent(controller: Controller) -> u8
 }
 
 fn sent(controller: Controller, bytes: &[u8]) -> Controller
+    requires { ⌜ length (now bytes) ≤ packet-limit ⌝ }
     ensures { λ r. ⌜ r ≡ spec.sent controller (now (bytes .entry)) ⌝ }
 {
-    let after = run_bytes(controller, bytes);
+    let after = run_packet(controller, bytes);
     run_zeros(after, unsent(after))
 }
 

@@ -1,6 +1,7 @@
 pub mod Agreement
 pub mod AsWritten
 pub mod Bus
+pub mod BusState
 pub mod CommandTable
 pub mod Effect
 pub mod Examples

@@ -7,6 +7,10 @@ use Rattle.controller.specs.declared.bus.Controller.{Controller}
 use Rattle.controller.specs.Bus.{exchange}
 use Rattle.packet.proofs.Loops.{take-more}
 
+-- the bytes of an input that are exchanged: as many as the output has room for
+abbrev pub exchanged : List ℕ → List ℕ → List ℕ
+exchanged input output = take (length output) input
+
 unfoldable pub run : Controller → List ℕ → Controller
 run c [] = c
 run c (b ∷ bs) = run (exchange c b .controller) bs

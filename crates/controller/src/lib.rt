@@ -1,7 +1,10 @@
 // The stand-in controller: the byte exchange of its main application.
 mod bus;
+mod run;
+mod state;
 
 pub use bus::Collected;
 pub use bus::Controller;
 pub use bus::Exchanged;
 pub use bus::Phase;
+pub use run::exchange_all;

@@ -1,6 +1,6 @@
 // A run of bytes that grows: a rendered answer, or the data of a call. What finds no room is dropped.
 
-const SIZE: usize = 2048;
+pub const SIZE: usize = 2048;
 
 pub struct Buffer {
     pub bytes: [u8; SIZE],

@@ -1,5 +1,6 @@
 // The calls that send bytes to the controller.
 use crate::buffer::Buffer;
+use crate::buffer::SIZE;
 use crate::calls;
 use crate::calls::Answered;
 use crate::packets;
@@ -7,6 +8,7 @@ use crate::packets::Way;
 use crate::scan;
 use crate::state::State;
 use controller::Controller;
+use controller::exchange_all;
 use packet::Access;
 use packet::Reply;
 use packet::ReplyRead;
@@ -17,25 +19,16 @@ struct Passed {
     out: Buffer,
 }
 
-fn pass(start: Controller, bytes: &[u8]) -> Passed {
-    let mut controller = start;
-    let mut out = Buffer::new();
-    let mut i: usize = 0;
-    while i < bytes.len() {
-        let one = controller.exchange(bytes[i]);
-        let next = one.controller;
-        controller = next;
-        out = out.put(one.out);
-        i += 1;
-    }
-    Passed { controller, out }
-}
-
-fn pass_buffer(state: State, given: Buffer) -> Passed {
-    let controller = state.controller;
+fn pass(state: State, given: Buffer) -> Passed {
+    let start = state.controller;
     let bytes = given.bytes;
-    let count = given.len;
-    pass(controller, text::part(&bytes, 0, count))
+    let len = given.len;
+    let mut out = [0; SIZE];
+    let controller = exchange_all(start, text::part(&bytes, 0, len), &mut out);
+    Passed {
+        controller,
+        out: Buffer { bytes: out, len },
+    }
 }
 
 // bus BYTES
@@ -44,7 +37,7 @@ pub fn bus(state: State, s: &[u8]) -> Answered {
     if read.end < s.len() {
         return calls::unreadable(state);
     }
-    let passed = pass_buffer(state, read.buffer);
+    let passed = pass(state, read.buffer);
     let controller = passed.controller;
     Answered {
         state: state.with_controller(controller),
@@ -68,7 +61,7 @@ pub fn exchange(state: State, arguments: &[u8]) -> Answered {
     if read.end < s.len() {
         return calls::unreadable(state);
     }
-    let passed = pass_buffer(state, read.buffer);
+    let passed = pass(state, read.buffer);
     let controller = passed.controller;
     Answered {
         state: state.with_controller(controller),

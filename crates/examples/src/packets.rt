@@ -3,6 +3,7 @@ use crate::buffer::Buffer;
 use crate::scan;
 use crate::scan::Number;
 use packet::Access;
+use packet::PACKET_LIMIT;
 use packet::Reply;
 use packet::ReplyRead;
 use packet::Written;
@@ -47,7 +48,7 @@ fn write_bytes(id: u8, access: Access, s: &[u8]) -> Buffer {
     let end = read.end;
     let rest = text::part(s, end, s.len());
     if rest.len() == 0 {
-        let mut lent = [UNTOUCHED; 516];
+        let mut lent = [UNTOUCHED; PACKET_LIMIT];
         return packet_written(id, access, read.buffer, &mut lent);
     }
     if check::same(text::word(rest), b"into") {

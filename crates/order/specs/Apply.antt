@@ -4,7 +4,7 @@ use mathlib.Core.Path.{_≡_}
 use mathlib.Core.List.{List, _++_}
 use lib.ListN.{length, take, replicate}
 use Rattle.number.specs.Number.{word-bytes}
-use Rattle.packet.specs.Packet.{packet-of}
+use Rattle.packet.specs.Packet.{packet-limit, packet-of}
 use Rattle.packet.specs.Writer.{overwritten}
 use Rattle.settings.specs.declared.settings.Settings.{Settings}
 use Rattle.registers.specs.Commands.{perform}
@@ -47,9 +47,9 @@ pub record Resolves (level : ℕ) (change : Change) (r : Resolved) : Type 0 wher
   pub data-is : resolved-data r ≡ command-data level change
   pub short : r .count ≤ data-limit
 
--- a packet's bytes at the front of 516
+-- a packet's bytes at the front of as many as the longest has
 abbrev pub built : List ℕ → Packet
-built bytes = record { bytes = overwritten bytes (replicate 516 0); len = length bytes }
+built bytes = record { bytes = overwritten bytes (replicate packet-limit 0); len = length bytes }
 
 abbrev pub packet-for : Resolved → Packet
 packet-for r = built (packet-of (r .command) (resolved-data r))

@@ -8,7 +8,7 @@ use lib.ListN.{length, take, length-take, replicate}
 use lib.Seq.{take-at}
 use lib.Dec.{eqb}
 use borrow.Author.Tests.{eqb-true, eqb-false}
-use Rattle.packet.specs.Packet.{command-byte, packet-of, packet}
+use Rattle.packet.specs.Packet.{packet-limit, command-byte, packet-of, packet}
 use Rattle.packet.specs.PacketTheorems.{packet-short}
 use Rattle.packet.specs.declared.writer.Access.{Access}
 use Rattle.packet.specs.declared.writer.Access.the-variants.{Write, Read}
@@ -30,7 +30,7 @@ command-byte-back k = by-cases (eqb (k % 2) 1) refl
     by-cases true e = omega (arith, eqb-true (k % 2) 1 e)
     by-cases false e = omega (arith, eqb-false (k % 2) 1 e)
 
-pub packet-of-short : (k : ℕ) (d : List ℕ) → length d ≤ 255 → length (packet-of k d) ≤ 516
+pub packet-of-short : (k : ℕ) (d : List ℕ) → length d ≤ 255 → length (packet-of k d) ≤ packet-limit
 packet-of-short k d short = rw command-byte-back at (packet-short (k / 2) (access k) d short)
 
 pub resolved-short : (r : Resolved) → r .count ≤ data-limit → length (resolved-data r) ≤ 255

@@ -4,20 +4,21 @@ use frame::Change;
 use frame::DATA_LIMIT;
 use number::high;
 use number::low;
+use packet::PACKET_LIMIT;
 use packet::Written;
 use registers::access;
 ghost use Rattle.frame.specs.Frame.{data-limit};
 ghost use mathlib.Core.Path.{_≡_};
 ghost use Prim.Native.Nat.{_+_, _-_, _≤_, min};
 ghost use lib.ListN.{length};
-ghost use Rattle.packet.specs.Packet.{packet-of};
+ghost use Rattle.packet.specs.Packet.{packet-limit, packet-of};
 ghost use Rattle.packet.specs.Writer.{overwritten};
 ghost use Rattle.frame.specs.View.{asked};
 ghost use Rattle.order.specs.Apply as spec;
 
-// A packet's first len bytes; the longest packet is 516 bytes.
+// A packet's first len bytes.
 pub struct Packet {
-    pub bytes: [u8; 516],
+    pub bytes: [u8; PACKET_LIMIT],
     pub len: usize,
 }
 
@@ -87,7 +88,7 @@ pub(crate) fn resolve(level: u16, change: Change) -> Resolved
 }
 
 fn written(command: u8, bytes: &[u8], out: &mut [u8]) -> usize
-    requires { ⌜ (length (now bytes) ≤ 255) × (length (now out) ≡ 516) ⌝ }
+    requires { ⌜ (length (now bytes) ≤ 255) × (length (now out) ≡ packet-limit) ⌝ }
     ensures { λ r. ⌜ (r ≡ length (packet-of command (now (bytes .entry)))) × (now (out .exit) ≡ overwritten (packet-of command (now (bytes .entry))) (now (out .entry))) ⌝ }
 {
     match packet::write(command / 2, access(command), bytes, &mut *out) {
@@ -102,7 +103,7 @@ pub(crate) fn packet_of(resolved: Resolved) -> Packet
 {
     let body = resolved.body;
     let count = resolved.count;
-    let mut bytes = [0u8; 516];
+    let mut bytes = [0u8; PACKET_LIMIT];
     let len = written(resolved.command, &body[..count], &mut bytes);
     Packet { bytes, len }
 }

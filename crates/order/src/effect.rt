@@ -11,6 +11,7 @@ ghost use Rattle.frame.specs.Frame.{data-limit};
 ghost use mathlib.Core.Path.{_≡_};
 ghost use Prim.Native.Nat.{_≤_};
 ghost use lib.ListN.{take};
+ghost use Rattle.packet.specs.Packet.{packet-limit};
 ghost use Rattle.registers.specs.Commands.{perform as perform-of};
 ghost use Rattle.controller.specs.ReadsBack.{has-escape as has-escape-of, noted};
 ghost use Rattle.frame.specs.View.{asked};
@@ -31,7 +32,7 @@ fn has_escape(bytes: &[u8]) -> bool
 
 // The settings with "escape seen" where the packet holds an escape.
 fn note(settings: Settings, packet: Packet) -> Settings
-    requires { ⌜ packet .len ≤ 516 ⌝ }
+    requires { ⌜ packet .len ≤ packet-limit ⌝ }
     ensures { λ r. ⌜ r ≡ noted settings (take (packet .len) (packet .bytes)) ⌝ }
 {
     let bytes = packet.bytes;

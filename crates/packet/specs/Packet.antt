@@ -7,6 +7,10 @@ use lib.Dec.{eqb}
 use Rattle.packet.specs.declared.writer.Access.{Access}
 use Rattle.packet.specs.declared.writer.Access.the-variants.{Write, Read}
 
+-- the longest packet's length: `packet-short` and `longest-reached` in PacketTheorems
+abbrev pub packet-limit : ℕ
+packet-limit = 516
+
 -- the lowest bit tells a read from a write
 abbrev pub command-byte : ℕ → Access → ℕ
 command-byte id Write = 2 * id

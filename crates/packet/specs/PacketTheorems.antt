@@ -10,7 +10,7 @@ use lib.Dec.{eqb, leb}
 use borrow.Author.Tests.{eqb-true, eqb-false, leb-true, leb-false}
 use Rattle.packet.specs.declared.writer.Access.{Access}
 use Rattle.packet.specs.declared.writer.Access.the-variants.{Write, Read}
-use Rattle.packet.specs.Packet.{command-byte, total, checksum, escape-byte, escape, fields, packet-of, packet, unescape-from, unescape}
+use Rattle.packet.specs.Packet.{packet-limit, command-byte, total, checksum, escape-byte, escape, fields, packet-of, packet, unescape-from, unescape}
 use Rattle.packet.specs.PacketLaws.{escape-start, escape-escape, escape-other, escape-append, fields-length}
 
 -- ---- taking the escapes out gives the bytes back
@@ -104,7 +104,7 @@ packet-determines id id′ access access′ bytes bytes′ e =
           ∙ take-at bytes′ (s′ ∷ []) (length bytes) (sym count),
     )
 
--- ---- no packet is longer than 516 bytes: with 255 data bytes the length itself needs no escape
+-- ---- the longest packet: with 255 data bytes the length itself needs no escape
 
 escape-byte-short : (b : ℕ) → length (escape-byte b) ≤ 2
 unfolding escape-byte
@@ -129,7 +129,7 @@ count-short n h = by-cases (leb n 254) refl
     by-cases true e = omega (arith, leb-true n 254 e, escape-byte-short n)
     by-cases false e = let last : n ≡ 255 = omega (arith, leb-false n 254 e) in rw last (omega arith)
 
-pub packet-short : (id : ℕ) (access : Access) (bytes : List ℕ) → length bytes ≤ 255 → length (packet id access bytes) ≤ 516
+pub packet-short : (id : ℕ) (access : Access) (bytes : List ℕ) → length bytes ≤ 255 → length (packet id access bytes) ≤ packet-limit
 unfolding packet-of
 packet-short id access bytes h =
     let k = command-byte id access in
@@ -147,6 +147,6 @@ packet-short id access bytes h =
 abbrev pub longest-data : List ℕ
 longest-data = replicate 50 0xA5 ++ replicate 205 0x5A
 
-pub longest-reached : (length longest-data ≡ 255) × (length (packet 0x2D Write longest-data) ≡ 516)
+pub longest-reached : (length longest-data ≡ 255) × (length (packet 0x2D Write longest-data) ≡ packet-limit)
 unfolding packet-of fields escape escape-byte checksum total
 longest-reached = (refl, refl)

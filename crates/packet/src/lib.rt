@@ -10,6 +10,7 @@ pub use reply::ReplyRead;
 pub use reply::read_reply;
 pub use sum::checksum;
 pub use writer::Access;
+pub use writer::PACKET_LIMIT;
 pub use writer::Written;
 pub use writer::write;
 ghost use mathlib.Core.Path.{_≡_};

@@ -20,6 +20,9 @@ pub enum Written {
     Refused(Refusal),
 }
 
+// The longest packet's length.
+pub const PACKET_LIMIT: usize = 516;
+
 const START: u8 = 0xA5;
 
 const ESCAPE: u8 = 0x5A;

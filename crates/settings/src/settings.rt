@@ -94,7 +94,7 @@ impl StatusBytes {
         s
     }
 
-    fn with(self, flag: Flag) -> StatusBytes
+    pub fn with_flag(self, flag: Flag) -> StatusBytes
         ensures { λ r. ⌜ r ≡ spec.with-flag self flag ⌝ }
     {
         match flag {
@@ -145,7 +145,7 @@ impl Settings {
     {
         let mut s = self;
         let old = s.status;
-        let new = old.with(flag);
+        let new = old.with_flag(flag);
         s.status = new;
         s
     }

@@ -28,7 +28,7 @@ pub enum Room {
 }
 
 // More bytes than a line can hold.
-const BYTES_LIMIT: usize = 2048;
+pub const BYTES_LIMIT: usize = 2048;
 
 // The bytes that a line gives: the first len.
 pub struct Given {

@@ -3,6 +3,7 @@ use crate::arguments;
 use crate::arguments::Given;
 use crate::print;
 use packet::Access;
+use packet::PACKET_LIMIT;
 use packet::Reply;
 use packet::ReplyRead;
 use packet::Written;
@@ -12,9 +13,6 @@ enum Way {
     Of(Access),
     Unknown,
 }
-
-// The longest packet.
-const PACKET_LIMIT: usize = 516;
 
 fn way_of(word: &[u8]) -> Way {
     if check::same(word, b"write") {

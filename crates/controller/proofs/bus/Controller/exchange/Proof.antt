@@ -1,16 +1,30 @@
 use borrow.Author.Needs.{needs}
-use Rattle.packet.proofs.Tests.{tests}
+use Rattle.controller.specs.Run.{run, outs}
 use Rattle.controller.proofs.bus.Controller.exchange.Statement.{statement}
 use Rattle.controller.proofs.bus.Controller.exchange.Tie as tie
 
-after-requires : tie.Need-after-requires
-after-requires c κs = search needs
+slice-aggregate-exchange-all : tie.Need-slice-aggregate-exchange-all
+slice-aggregate-exchange-all c = search needs
 
-out-requires : tie.Need-out-requires
-out-requires c κs = search needs
+slice-aggregate-exchange-all-2 : tie.Need-slice-aggregate-exchange-all-2
+slice-aggregate-exchange-all-2 c = search needs
+
+exchange-all-requires : tie.Need-exchange-all-requires
+exchange-all-requires c κs = search needs
+
+array-read-t12 : tie.Need-array-read-t12
+array-read-t12 c = search needs
 
 returns : tie.Need-returns
-returns c = search (needs, tests, c .out .ensures, c .before .after .ensures)
+unfolding run outs
+returns c = search (needs, c .before .exchange-all .ensures .0, c .before .exchange-all .ensures .1)
 
 pub exchange-spec : {M : Type 1} → statement M
-exchange-spec = tie.close (tie.spec after-requires out-requires returns)
+exchange-spec =
+    tie.close
+    (tie.spec
+    slice-aggregate-exchange-all
+    slice-aggregate-exchange-all-2
+    exchange-all-requires
+    array-read-t12
+    returns)

@@ -4,12 +4,12 @@ use borrow.Author.Needs.{needs}
 use Rattle.settings.proofs.settings.Settings.flagged.Statement.{statement}
 use Rattle.settings.proofs.settings.Settings.flagged.Tie as tie
 
-with-requires : tie.Need-with-requires
-with-requires c κs = search needs
+with-flag-requires : tie.Need-with-flag-requires
+with-flag-requires c κs = search needs
 
 returns : tie.Need-returns
 unfolding flagged
-returns c = search (needs, tests, c .with .ensures)
+returns c = search (needs, tests, c .with-flag .ensures)
 
 pub flagged-spec : {M : Type 1} → statement M
-flagged-spec = tie.close (tie.spec with-requires returns)
+flagged-spec = tie.close (tie.spec with-flag-requires returns)

@@ -1,0 +1,93 @@
+-- What a step does to a state is what Bus does to the controller that the state is part of.
+use Prim.Native.Nat.{ℕ, _≤_}
+use native.Mathlib.Omega.{arith}
+use mathlib.Core.Path.{_≡_, refl, _∙_}
+use mathlib.Core.Bool.{Bool, true, false, cond}
+use mathlib.Core.List.{List, [], _∷_}
+use lib.ListN.{replicate, take}
+use lib.Dec.{eqb}
+use borrow.Author.Tests.{eq-eqb, ne-eqb, le-ltb}
+use Rattle.settings.specs.declared.settings.Settings.{Settings}
+use Rattle.settings.specs.declared.settings.Flag.the-variants.{Incomplete, BytesIgnored, WrongChecksum}
+use Rattle.settings.specs.Settings as settings-spec
+use Rattle.registers.specs.declared.command.Performed.{Performed}
+use Rattle.registers.specs.Commands.{perform, outgoing}
+use Rattle.controller.specs.declared.bus.Controller.{Controller}
+use Rattle.controller.specs.declared.state.BusState.{BusState}
+use Rattle.controller.specs.Bus as bus
+use Rattle.controller.specs.BusState.{state-of, assembled, alone, judged, opens, unescaped}
+
+module _ (s : BusState) (σ : Settings) (body bytes : List ℕ) where
+  pub start-assembled : assembled (state-of (bus.start (alone s))) σ body (replicate 11 0) ≡ bus.start (assembled s σ body bytes)
+  unfolding bus.start settings-spec.flagged
+  start-assembled = by-test (bus.is-idle (s .phase))
+    where
+      by-test : (t : Bool) →
+          assembled (state-of (cond t (bus.started (alone s)) (bus.started (bus.flagged (alone s) Incomplete)))) σ body (replicate 11 0)
+          ≡ cond t (bus.started (assembled s σ body bytes)) (bus.started (bus.flagged (assembled s σ body bytes) Incomplete))
+      by-test true = refl
+      by-test false = refl
+
+  pub outside-assembled : (b : ℕ) → assembled (state-of (bus.outside (alone s) b)) σ body bytes ≡ bus.outside (assembled s σ body bytes) b
+  unfolding bus.outside settings-spec.flagged
+  outside-assembled b = by-test (eqb b 0x00)
+    where
+      by-test : (t : Bool) →
+          assembled (state-of (cond t (alone s) (bus.flagged (alone s) BytesIgnored))) σ body bytes
+          ≡ cond t (assembled s σ body bytes) (bus.flagged (assembled s σ body bytes) BytesIgnored)
+      by-test true = refl
+      by-test false = refl
+
+  -- a packet's end: what its checksum byte leaves, put in place
+  pub judge-assembled : (v : ℕ) →
+      let done = judged (assembled s σ body []) v in
+      assembled (state-of (bus.ended (alone s) (done .settings) (done .reply))) (done .settings) body (done .reply .bytes)
+      ≡ bus.judge (assembled s σ body bytes) v
+  unfolding judged bus.judge
+  judge-assembled v = by-test (eqb v (s .sum))
+    where
+      held : Settings
+      held = settings-spec.with-status σ (s .status)
+
+      right : Performed
+      right = perform held (s .command) (take (s .count) body)
+
+      wrong : Performed
+      wrong = record { settings = settings-spec.flagged held WrongChecksum; reply = outgoing (0x02 ∷ []) }
+
+      by-test : (t : Bool) →
+          assembled (state-of (bus.ended (alone s) (cond t right wrong .settings) (cond t right wrong .reply))) (cond t right wrong .settings) body (cond t right wrong .reply .bytes)
+          ≡ cond t (bus.ended (assembled s σ body bytes) (right .settings) (right .reply)) (bus.ended (assembled s σ body bytes) (wrong .settings) (wrong .reply))
+      by-test true = refl
+      by-test false = refl
+
+-- a byte that starts no escape is fed
+module _ (c : Controller) (b : ℕ) where
+  pub opens-inside : opens (c .escape) b ≡ true → bus.escape-open c ≡ bus.inside c b
+  unfolding opens bus.inside
+  opens-inside = by-escape (c .escape)
+    where
+      by-escape : (e : Bool) → opens e b ≡ true → bus.escape-open c ≡ cond e (bus.feed c (cond (eqb b 0x00) 0xA5 b)) (cond (eqb b 0x5A) (bus.escape-open c) (bus.feed c b))
+      by-escape true t = let z : _≡_ {A = ℕ} 0 1 = cc in absurd (omega arith)
+      by-escape false t = rw t
+
+  pub feeds-inside : opens (c .escape) b ≡ false → bus.feed c (unescaped (c .escape) b) ≡ bus.inside c b
+  unfolding opens unescaped bus.inside
+  feeds-inside = by-escape (c .escape)
+    where
+      by-escape : (e : Bool) → opens e b ≡ false → bus.feed c (unescaped e b) ≡ cond e (bus.feed c (cond (eqb b 0x00) 0xA5 b)) (cond (eqb b 0x5A) (bus.escape-open c) (bus.feed c b))
+      by-escape true t = refl
+      by-escape false t = rw t
+
+  -- the branches of `after`, by what the code's tests show
+  pub starts : b ≡ 0xA5 → bus.after c b ≡ bus.start c
+  unfolding bus.after
+  starts h = rw (eq-eqb b 0xA5 h)
+
+  pub ignores : (b ≡ 0xA5 → ⊥) → c .reply .len ≤ c .reply .sent → bus.is-idle (c .phase) ≡ true → bus.after c b ≡ bus.outside c b
+  unfolding bus.after
+  ignores h s i = rw (ne-eqb b 0xA5 h, le-ltb (c .reply .sent) (c .reply .len) s, i)
+
+  pub enters : (b ≡ 0xA5 → ⊥) → c .reply .len ≤ c .reply .sent → bus.is-idle (c .phase) ≡ false → bus.after c b ≡ bus.inside c b
+  unfolding bus.after
+  enters h s i = rw (ne-eqb b 0xA5 h, le-ltb (c .reply .sent) (c .reply .len) s, i)

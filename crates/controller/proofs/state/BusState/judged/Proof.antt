@@ -1,0 +1,47 @@
+use native.Mathlib.Omega.{arith}
+use mathlib.Core.Path.{_≡_, sym}
+use lib.ListN.{length}
+use lib.Seq.{length-take-le}
+use borrow.Author.Needs.{needs}
+use Rattle.packet.proofs.Tests.{tests}
+use Rattle.controller.specs.BusState.{judged}
+use Rattle.controller.proofs.state.BusState.judged.Statement.{statement}
+use Rattle.controller.proofs.state.BusState.judged.Tie as tie
+
+cast-count : tie.Need-cast-count
+cast-count c = search needs
+
+slice-aggregate-perform : tie.Need-slice-aggregate-perform
+slice-aggregate-perform c = 
+    let a = c .before .before .before .before .before .before .args in
+    let long : length (a .body .now) ≡ 255 = search needs in
+    sym (length-take-le (a .self .count) (a .body .now) (omega arith))
+
+perform-requires : tie.Need-perform-requires
+perform-requires c κs = search needs
+
+returns : tie.Need-returns
+unfolding judged
+returns c = search (needs, tests, c .perform .ensures)
+
+flagged-requires : tie.Need-flagged-requires
+flagged-requires c κs = search needs
+
+response-requires : tie.Need-response-requires
+response-requires c κs = search needs
+
+returns-2 : tie.Need-returns-2
+unfolding judged
+returns-2 c = search (needs, tests, c .response .ensures, c .before .flagged .ensures)
+
+pub judged-spec : {M : Type 1} → statement M
+judged-spec =
+    tie.close
+    (tie.spec
+    cast-count
+    slice-aggregate-perform
+    perform-requires
+    returns
+    flagged-requires
+    response-requires
+    returns-2)

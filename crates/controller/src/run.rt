@@ -1,0 +1,55 @@
+// The exchange over a run of bytes. The controller is taken apart once: the two arrays are changed in place, the settings
+// where a packet ends, and the rest goes from step to step by value.
+use crate::bus::Controller;
+use crate::state::BusState;
+use crate::state::Step;
+ghost use mathlib.Core.Path.{_≡_};
+ghost use mathlib.Core.List.{_++_};
+ghost use Prim.Native.Nat.{min};
+ghost use lib.ListN.{length, drop};
+ghost use Rattle.controller.specs.Run.{run, outs, exchanged};
+
+fn least(a: usize, b: usize) -> usize
+    ensures { λ r. ⌜ r ≡ min a b ⌝ }
+{
+    if a < b {
+        return a;
+    }
+    b
+}
+
+// Exchanges the bytes of the input one after another, and puts those that the controller sends at the start of the output.
+// A byte that finds no room for the one sent out is not exchanged.
+pub fn exchange_all(controller: Controller, input: &[u8], output: &mut [u8]) -> Controller
+    ensures after { λ r. ⌜ r ≡ run controller (exchanged (now (input .entry)) (now (output .entry))) ⌝ }
+    ensures sent { λ _. ⌜ now (output .exit) ≡ outs controller (exchanged (now (input .entry)) (now (output .entry))) ++ drop (length (now (input .entry))) (now (output .entry)) ⌝ }
+{
+    let packet = controller.packet;
+    let reply = controller.reply;
+    let mut body = packet.body;
+    let mut bytes = reply.bytes;
+    let mut settings = controller.settings;
+    let mut state = BusState::of(controller);
+    let n = least(input.len(), output.len());
+    let mut i: usize = 0;
+    while i < n {
+        output[i] = state.out(&bytes);
+        let step = state.after(input[i], &mut body, &mut bytes);
+        match step {
+            Step::Next(next) => {
+                state = next;
+            }
+            Step::Checksum(sum) => {
+                let done = state.judged(sum, settings, &body);
+                let after = done.settings;
+                let reply = done.reply;
+                let all = reply.bytes;
+                settings = after;
+                bytes = all;
+                state = state.ended(after, reply);
+            }
+        }
+        i += 1;
+    }
+    state.assembled(settings, body, bytes)
+}
