@@ -1,13 +1,11 @@
 -- Laws for the proofs of this crate.
-use Prim.Native.Nat.{ℕ, _+_}
-use mathlib.Core.Path.{_≡_}
-use mathlib.Core.List.{[], _∷_}
-use lib.ListN.{replicate, replicate-append-replicate}
-use Rattle.controller.specs.declared.bus.Controller.{Controller}
-use Rattle.controller.specs.Bus.{exchange}
-use Rattle.controller.specs.Run.{run, run-append}
+use Prim.Native.Nat.{ℕ, zero, suc, _≤_}
+use native.Mathlib.Omega.{arith}
+use mathlib.Core.Path.{_≡_, refl, ap}
+use mathlib.Core.List.{List, _∷_}
+use lib.ListN.{take, replicate}
 
--- one more zero
-pub zeros-more : (c : Controller) (n : ℕ) → run c (replicate (n + 1) 0x00) ≡ exchange (run c (replicate n 0x00)) 0x00 .controller
-unfolding run
-zeros-more c n = rw (← replicate-append-replicate {A = ℕ} n 1 0x00, run-append (replicate n 0x00) (0x00 ∷ []) c)
+pub take-replicate : {A : Type 0} (n m : ℕ) (a : A) → n ≤ m → take n (replicate m a) ≡ replicate n a
+take-replicate zero m a h = refl
+take-replicate (suc n) zero a h = absurd (omega arith)
+take-replicate {A} (suc n) (suc m) a h = ap (λ (l : List A). a ∷ l) (take-replicate n m a (omega arith))

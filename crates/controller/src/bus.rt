@@ -35,34 +35,6 @@ pub struct Exchanged {
     pub out: u8,
 }
 
-pub(crate) fn is_idle(phase: Phase) -> bool
-    ensures { λ r. ⌜ r ≡ spec.is-idle phase ⌝ }
-{
-    match phase {
-        Phase::Idle => true,
-        Phase::Command => false,
-        Phase::Length => false,
-        Phase::Data(_) => false,
-        Phase::Checksum => false,
-    }
-}
-
-pub(crate) fn add(sum: u8, byte: u8) -> u8
-    ensures { λ r. ⌜ r ≡ spec.add sum byte ⌝ }
-{
-    (((sum as u16) + (byte as u16)) % 256) as u8
-}
-
-// The place of the next data byte, of count where left are left.
-pub(crate) fn place(count: u8, left: u8) -> usize
-    ensures { λ r. ⌜ r ≡ spec.place count left ⌝ }
-{
-    if left <= count {
-        return (count - left) as usize;
-    }
-    0
-}
-
 fn nothing_unsent() -> Outgoing
     ensures { λ r. ⌜ r ≡ spec.nothing-unsent ⌝ }
 {
@@ -71,24 +43,6 @@ fn nothing_unsent() -> Outgoing
         len: 0,
         sent: 0,
     }
-}
-
-pub(crate) fn after_length(count: u8) -> Phase
-    ensures { λ r. ⌜ r ≡ spec.after-length count ⌝ }
-{
-    if count == 0 {
-        return Phase::Checksum;
-    }
-    Phase::Data(count)
-}
-
-pub(crate) fn after_data(left: u8) -> Phase
-    ensures { λ r. ⌜ r ≡ spec.after-data left ⌝ }
-{
-    if left <= 1 {
-        return Phase::Checksum;
-    }
-    Phase::Data(left - 1)
 }
 
 impl Collected {

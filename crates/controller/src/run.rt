@@ -41,12 +41,12 @@ pub fn exchange_all(controller: Controller, input: &[u8], output: &mut [u8]) -> 
             }
             Step::Checksum(sum) => {
                 let done = state.judged(sum, settings, &body);
-                let after = done.settings;
-                let reply = done.reply;
-                let all = reply.bytes;
-                settings = after;
-                bytes = all;
-                state = state.ended(after, reply);
+                let held = done.settings;
+                let answer = done.reply;
+                let unsent = answer.bytes;
+                settings = held;
+                bytes = unsent;
+                state = state.ended(held, answer);
             }
         }
         i += 1;

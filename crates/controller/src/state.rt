@@ -3,11 +3,6 @@
 use crate::bus::Collected;
 use crate::bus::Controller;
 use crate::bus::Phase;
-use crate::bus::add;
-use crate::bus::after_data;
-use crate::bus::after_length;
-use crate::bus::is_idle;
-use crate::bus::place;
 use number::byte;
 use registers::Outgoing;
 use registers::Performed;
@@ -39,6 +34,52 @@ pub struct BusState {
 pub enum Step {
     Next(BusState),
     Checksum(u8),
+}
+
+fn is_idle(phase: Phase) -> bool
+    ensures { λ r. ⌜ r ≡ spec.is-idle phase ⌝ }
+{
+    match phase {
+        Phase::Idle => true,
+        Phase::Command => false,
+        Phase::Length => false,
+        Phase::Data(_) => false,
+        Phase::Checksum => false,
+    }
+}
+
+fn add(sum: u8, byte: u8) -> u8
+    ensures { λ r. ⌜ r ≡ spec.add sum byte ⌝ }
+{
+    (((sum as u16) + (byte as u16)) % 256) as u8
+}
+
+// The place of the next data byte, of count where left are left.
+fn place(count: u8, left: u8) -> usize
+    ensures { λ r. ⌜ r ≡ spec.place count left ⌝ }
+{
+    if left <= count {
+        return (count - left) as usize;
+    }
+    0
+}
+
+fn after_length(count: u8) -> Phase
+    ensures { λ r. ⌜ r ≡ spec.after-length count ⌝ }
+{
+    if count == 0 {
+        return Phase::Checksum;
+    }
+    Phase::Data(count)
+}
+
+fn after_data(left: u8) -> Phase
+    ensures { λ r. ⌜ r ≡ spec.after-data left ⌝ }
+{
+    if left <= 1 {
+        return Phase::Checksum;
+    }
+    Phase::Data(left - 1)
 }
 
 // Whether a byte of the open packet starts an escape.
@@ -94,7 +135,12 @@ impl BusState {
         }
     }
 
-    pub(crate) fn assembled(self, settings: Settings, body: [u8; 255], bytes: [u8; 11]) -> Controller
+    pub(crate) fn assembled(
+        self,
+        settings: Settings,
+        body: [u8; 255],
+        bytes: [u8; 11],
+    ) -> Controller
         ensures { λ r. ⌜ r ≡ assembled self settings body bytes ⌝ }
     {
         let phase = self.phase;

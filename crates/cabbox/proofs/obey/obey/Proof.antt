@@ -3,6 +3,7 @@ use native.Mathlib.Omega.{arith}
 use mathlib.Core.Path.{_≡_, sym, ap, _∙_}
 use lib.ListN.{length, take, length-take}
 use lib.Seq.{length-take-le}
+use Rattle.packet.specs.Packet.{packet-limit}
 use Rattle.frame.specs.View.{asked}
 use Rattle.order.specs.declared.change.Packet.{Packet}
 use Rattle.order.specs.Apply.{command-byte, command-data, order-packet}
@@ -27,8 +28,8 @@ array-share-prefix-bytes c =
     let few : length (take (change .count) (change .body)) ≤ 16 = rw length-take (omega arith) in
     let level = c .before .before .settings .result .backlight in
     let len-is : p .result .len ≡ length (order-packet level (asked change)) = ap (λ (x : Packet). x .len) (p .ensures) in
-    let fits : p .result .len ≤ 516 = omega (arith, packet-of-short (command-byte (asked change)) (command-data level (asked change)) (data-short level (change .ask) (take (change .count) (change .body)) few)) in
-    let long : length (p .result .bytes) ≡ 516 = search (needs, p .ok) in
+    let fits : p .result .len ≤ packet-limit = omega (arith, packet-of-short (command-byte (asked change)) (command-data level (asked change)) (data-short level (change .ask) (take (change .count) (change .body)) few)) in
+    let long : length (p .result .bytes) ≡ packet-limit = search (needs, p .ok) in
     omega arith
 
 slice-aggregate-sent : tie.Need-slice-aggregate-sent
@@ -40,12 +41,15 @@ slice-aggregate-sent c =
     let few : length (take (change .count) (change .body)) ≤ 16 = rw length-take (omega arith) in
     let level = c .before .before .before .settings .result .backlight in
     let len-is : p .result .len ≡ length (order-packet level (asked change)) = ap (λ (x : Packet). x .len) (p .ensures) in
-    let fits : p .result .len ≤ 516 = omega (arith, packet-of-short (command-byte (asked change)) (command-data level (asked change)) (data-short level (change .ask) (take (change .count) (change .body)) few)) in
-    let long : length (p .result .bytes) ≡ 516 = search (needs, p .ok) in
+    let fits : p .result .len ≤ packet-limit = omega (arith, packet-of-short (command-byte (asked change)) (command-data level (asked change)) (data-short level (change .ask) (take (change .count) (change .body)) few)) in
+    let long : length (p .result .bytes) ≡ packet-limit = search (needs, p .ok) in
     sym (length-take-le (p .result .len) (p .result .bytes) (omega arith))
 
 sent-requires : tie.Need-sent-requires
-sent-requires c κs = search needs
+sent-requires c κs =
+    let p = c .before .before .order-packet in
+    let long : length (p .result .bytes) ≡ packet-limit = search (needs, p .ok) in
+    rw length-take (omega arith)
 
 returns : tie.Need-returns
 returns c =

@@ -4,8 +4,8 @@ use Rattle.session.specs.Box.{sent}
 use Rattle.cabbox.proofs.obey.sent.Statement.{statement}
 use Rattle.cabbox.proofs.obey.sent.Tie as tie
 
-run-bytes-requires : tie.Need-run-bytes-requires
-run-bytes-requires c κs = search needs
+run-packet-requires : tie.Need-run-packet-requires
+run-packet-requires c κs = search needs
 
 unsent-requires : tie.Need-unsent-requires
 unsent-requires c κs = search needs
@@ -15,7 +15,7 @@ run-zeros-requires c κs = search needs
 
 returns : tie.Need-returns
 unfolding sent
-returns c = search (needs, tests, c .run-zeros .ensures, c .before .unsent .ensures, c .before .before .run-bytes .ensures)
+returns c = search (needs, tests, c .run-zeros .ensures, c .before .unsent .ensures, c .before .before .run-packet .ensures)
 
 pub sent-spec : {M : Type 1} → statement M
-sent-spec = tie.close (tie.spec run-bytes-requires unsent-requires run-zeros-requires returns)
+sent-spec = tie.close (tie.spec run-packet-requires unsent-requires run-zeros-requires returns)

@@ -60,30 +60,37 @@ ended-requires c κs = search needs
 
 add-i : tie.Need-add-i Inv-loop μ-loop
 add-i c =
-    let l = c .before .before .before .before .before .before .before .before .loop in
-    let t = c .before .before .before .before .before .before .before .loop-test .taken in
-    record { fits = omega (arith, c .before .before .before .before .before .before .before .before .before .before .before .before .before .before .before .before .before .before .good .1 .0, c .before .before .before .before .before .before .before .before .before .least .ensures) }
+    let turn = c .before .before .before .before .before .before .before in
+    let begun = turn .before .before in
+    let entry = begun .before .before .before .before .before .before .before .before .before in
+    record { fits = omega (arith, turn .loop-test .taken, begun .least .ensures, entry .good .1 .0) }
 
 loop-less : tie.Need-loop-less Inv-loop μ-loop
 loop-less c = search needs
 
 loop-again : tie.Need-loop-again Inv-loop μ-loop
 loop-again c =
-    let l = c .before .before .before .before .before .before .before .before .loop in
-    let a = c .before .before .before .before .before .before .before .before .before .before .before .before .before .before .before .before .before .before .args in
-    let start = assembled (c .before .before .before .before .before .before .before .before .before .before .of .result) (a .controller .settings) (a .controller .packet .body) (a .controller .reply .bytes) in
-    let input = a .input .now in
+    let stepped = c .before in
+    let sent = stepped .before .before .before .before in
+    let turn = sent .before .before in
+    let begun = turn .before .before in
+    let entry = begun .before .before .before .before .before .before .before .before .before in
+    let l = turn .before .loop in
+    let input = entry .args .input .now in
+    let output = entry .args .output .now in
+    let opening = entry .args .controller in
+    let start = assembled (begun .before .of .result) (opening .settings) (opening .packet .body) (opening .reply .bytes) in
     let byte = getD input (l .i) 0 in
-    let within : l .i < length input = omega (arith, c .before .before .before .before .before .before .before .before .before .least .ensures, c .before .before .before .before .before .before .before .loop-test .taken) in
-    let room : l .i < length (a .output .now) = omega (arith, c .before .before .before .before .before .before .before .before .before .least .ensures, c .before .before .before .before .before .before .before .loop-test .taken) in
-    let stepped = c .before .after .ensures (l .settings) in
+    let within : l .i < length input = omega (arith, turn .loop-test .taken, begun .least .ensures) in
+    let room : l .i < length output = omega (arith, turn .loop-test .taken, begun .least .ensures) in
+    let step = stepped .after .ensures (l .settings) in
     let more = ap (λ (k : Controller). after k byte) (l .inv .1) ∙ sym (run-more start input (l .i) within) in
-    let sent : c .before .before .before .before .before .out .result ≡ out (run start (take (l .i) input)) = c .before .before .before .before .before .out .ensures (l .settings) (l .body) ∙ ap out (l .inv .1) in (
+    let out-is : sent .out .result ≡ out (run start (take (l .i) input)) = sent .out .ensures (l .settings) (l .body) ∙ ap out (l .inv .1) in (
       search needs,
-      ⊎-elim (λ m. rw (m .3, m .4, m .5) ((rw (m .1 .given .1) at stepped) ∙ more))
-      (λ m. rw (m .9, m .10, m .11, m .8 .ensures, m .4 .ensures) (judge-assembled (l .state) (l .settings) _ _ _ ∙ (rw (m .1 .given .1) at stepped) ∙ more))
-      (c .match .came),
-      rw (sent, l .inv .2) (sent-more start input (a .output .now) (l .i) within room),
+      ⊎-elim (λ next. rw (next .3, next .4, next .5) ((rw (next .1 .given .1) at step) ∙ more))
+          (λ sum. rw (sum .9, sum .10, sum .11, sum .8 .ensures, sum .4 .ensures) (judge-assembled (l .state) (l .settings) _ _ _ ∙ (rw (sum .1 .given .1) at step) ∙ more))
+          (c .match .came),
+      rw (out-is, l .inv .2) (sent-more start input output (l .i) within room),
       simp length-set (l .inv .3),
     )
 
@@ -95,14 +102,15 @@ same-length c = search needs
 
 returns : tie.Need-returns Inv-loop μ-loop
 returns c =
+    let begun = c .before .before .before in
+    let entry = begun .before .before .before .before .before .before .before .before .before in
     let l = c .before .before .loop in
-    let a = c .before .before .before .before .before .before .before .before .before .before .before .before .args in
-    let input = a .input .now in
-    let output = a .output .now in
-    let all : l .i ≡ min (length input) (length output) = omega (arith, c .before .loop-test .left, c .before .before .before .least .ensures) in
+    let input = entry .args .input .now in
+    let output = entry .args .output .now in
+    let all : l .i ≡ min (length input) (length output) = omega (arith, c .before .loop-test .left, begun .least .ensures) in
     let taken : take (l .i) input ≡ take (length output) input = rw all (take-least input (length output)) in
     let kept : drop (l .i) output ≡ drop (length input) output = rw all (drop-least (length input) output) in
-    let from = c .before .before .before .before .of .ensures in
+    let from = begun .before .of .ensures in
     (c .assembled .ensures ∙ l .inv .1 ∙ rw (taken, from), l .inv .2 ∙ rw (taken, kept, from))
 
 pub exchange-all-spec : {M : Type 1} → statement M

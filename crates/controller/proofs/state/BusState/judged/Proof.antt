@@ -12,7 +12,7 @@ cast-count : tie.Need-cast-count
 cast-count c = search needs
 
 slice-aggregate-perform : tie.Need-slice-aggregate-perform
-slice-aggregate-perform c = 
+slice-aggregate-perform c =
     let a = c .before .before .before .before .before .before .args in
     let long : length (a .body .now) ≡ 255 = search needs in
     sym (length-take-le (a .self .count) (a .body .now) (omega arith))

@@ -1,8 +1,8 @@
 use borrow.Author.Needs.{needs}
 use Rattle.packet.proofs.Tests.{tests}
 use Rattle.controller.specs.Bus.{after-length}
-use Rattle.controller.proofs.bus.after_length.Statement.{statement}
-use Rattle.controller.proofs.bus.after_length.Tie as tie
+use Rattle.controller.proofs.state.after_length.Statement.{statement}
+use Rattle.controller.proofs.state.after_length.Tie as tie
 
 returns : tie.Need-returns
 unfolding after-length
