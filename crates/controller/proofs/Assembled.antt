@@ -1,21 +1,19 @@
 -- What a step does to a state is what Bus does to the controller that the state is part of.
 use Prim.Native.Nat.{ℕ, _≤_}
 use native.Mathlib.Omega.{arith}
-use mathlib.Core.Path.{_≡_, refl, _∙_}
+use mathlib.Core.Path.{_≡_, refl}
 use mathlib.Core.Bool.{Bool, true, false, cond}
-use mathlib.Core.List.{List, [], _∷_}
-use lib.ListN.{replicate, take}
+use mathlib.Core.List.{List}
+use lib.ListN.{replicate}
 use lib.Dec.{eqb}
 use borrow.Author.Tests.{eq-eqb, ne-eqb, le-ltb}
 use Rattle.settings.specs.declared.settings.Settings.{Settings}
-use Rattle.settings.specs.declared.settings.Flag.the-variants.{Incomplete, BytesIgnored, WrongChecksum}
+use Rattle.settings.specs.declared.settings.Flag.the-variants.{Incomplete, BytesIgnored}
 use Rattle.settings.specs.Settings as settings-spec
-use Rattle.registers.specs.declared.command.Performed.{Performed}
-use Rattle.registers.specs.Commands.{perform, outgoing}
 use Rattle.controller.specs.declared.bus.Controller.{Controller}
 use Rattle.controller.specs.declared.state.BusState.{BusState}
 use Rattle.controller.specs.Bus as bus
-use Rattle.controller.specs.BusState.{state-of, assembled, alone, judged, opens, unescaped}
+use Rattle.controller.specs.BusState.{state-of, assembled, alone, opens, unescaped}
 
 module _ (s : BusState) (σ : Settings) (body bytes : List ℕ) where
   pub start-assembled : assembled (state-of (bus.start (alone s))) σ body (replicate 11 0) ≡ bus.start (assembled s σ body bytes)
@@ -35,29 +33,6 @@ module _ (s : BusState) (σ : Settings) (body bytes : List ℕ) where
       by-test : (t : Bool) →
           assembled (state-of (cond t (alone s) (bus.flagged (alone s) BytesIgnored))) σ body bytes
           ≡ cond t (assembled s σ body bytes) (bus.flagged (assembled s σ body bytes) BytesIgnored)
-      by-test true = refl
-      by-test false = refl
-
-  -- a packet's end: what its checksum byte leaves, put in place
-  pub judge-assembled : (v : ℕ) →
-      let done = judged (assembled s σ body []) v in
-      assembled (state-of (bus.ended (alone s) (done .settings) (done .reply))) (done .settings) body (done .reply .bytes)
-      ≡ bus.judge (assembled s σ body bytes) v
-  unfolding judged bus.judge
-  judge-assembled v = by-test (eqb v (s .sum))
-    where
-      held : Settings
-      held = settings-spec.with-status σ (s .status)
-
-      right : Performed
-      right = perform held (s .command) (take (s .count) body)
-
-      wrong : Performed
-      wrong = record { settings = settings-spec.flagged held WrongChecksum; reply = outgoing (0x02 ∷ []) }
-
-      by-test : (t : Bool) →
-          assembled (state-of (bus.ended (alone s) (cond t right wrong .settings) (cond t right wrong .reply))) (cond t right wrong .settings) body (cond t right wrong .reply .bytes)
-          ≡ cond t (bus.ended (assembled s σ body bytes) (right .settings) (right .reply)) (bus.ended (assembled s σ body bytes) (wrong .settings) (wrong .reply))
       by-test true = refl
       by-test false = refl
 

@@ -3,18 +3,16 @@
 use Prim.Native.Nat.{ℕ}
 use mathlib.Core.Path.{_≡_}
 use mathlib.Core.Bool.{Bool, false, cond}
-use mathlib.Core.List.{List, [], _∷_}
+use mathlib.Core.List.{List, []}
 use lib.Dec.{eqb}
 use Rattle.controller.specs.declared.bus.Controller.{Controller}
 use Rattle.controller.specs.declared.state.BusState.{BusState}
 use Rattle.controller.specs.declared.state.Step.{Step}
 use Rattle.controller.specs.declared.state.Step.the-variants.{Next, Checksum}
 use Rattle.registers.specs.declared.command.Performed.{Performed}
-use Rattle.registers.specs.Commands.{outgoing}
 use Rattle.settings.specs.declared.settings.Settings.{Settings}
-use Rattle.settings.specs.declared.settings.Flag.the-variants.{WrongChecksum}
-use Rattle.settings.specs.Settings.{with-status, flagged, fresh}
-use Rattle.controller.specs.Bus.{controller-of, performed, judge}
+use Rattle.settings.specs.Settings.{with-status, fresh}
+use Rattle.controller.specs.Bus.{controller-of, ended, judge}
 
 abbrev pub state-of : Controller → BusState
 state-of c =
@@ -49,11 +47,9 @@ finished s (Checksum v) σ body bytes = judge (assembled s σ body bytes) v
 abbrev pub Steps : (Controller → Controller) → BusState → List ℕ → List ℕ → Step → List ℕ → List ℕ → Type 0
 Steps f s body bytes r body′ bytes′ = (σ : Settings) → finished s r σ body′ bytes′ ≡ f (assembled s σ body bytes)
 
--- the settings that a checksum byte leaves, and the reply to it
-unfoldable pub judged : Controller → ℕ → Performed
-judged c v =
-    cond (eqb v (c .packet .sum)) (performed (c .packet) (c .settings))
-    (record { settings = flagged (c .settings) WrongChecksum; reply = outgoing (0x02 ∷ []) })
+-- the controller at a packet's end, with the settings and the reply that its checksum byte leaves
+abbrev pub ended-with : BusState → Performed → List ℕ → Controller
+ended-with s done body = assembled (state-of (ended (alone s) (done .settings) (done .reply))) (done .settings) body (done .reply .bytes)
 
 -- whether a byte of the open packet starts an escape
 unfoldable pub opens : Bool → ℕ → Bool

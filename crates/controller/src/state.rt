@@ -12,11 +12,11 @@ use settings::Flag;
 use settings::Settings;
 use settings::StatusBytes;
 ghost use mathlib.Core.Path.{_≡_};
-ghost use mathlib.Core.List.{List, []};
+ghost use mathlib.Core.List.{List};
 ghost use Prim.Native.Nat.{ℕ, _<_};
 ghost use lib.ListN.{set};
 ghost use Rattle.controller.specs.Bus as spec;
-ghost use Rattle.controller.specs.BusState.{state-of, alone, assembled, Steps, opens as opens-escape, unescaped as out-of-escape, judged as judged-as};
+ghost use Rattle.controller.specs.BusState.{state-of, alone, assembled, Steps, ended-with, opens as opens-escape, unescaped as out-of-escape};
 
 // A controller but for its two arrays and its settings, of which it has the status bits.
 pub struct BusState {
@@ -360,7 +360,7 @@ impl BusState {
 
     // What a checksum byte makes of the settings, and the reply to it.
     pub(crate) fn judged(self, sum: u8, settings: Settings, body: &[u8; 255]) -> Performed
-        ensures { λ r. ⌜ r ≡ judged-as (assembled self settings (now (body .entry)) []) sum ⌝ }
+        ensures { λ r. ⌜ ((bytes : List ℕ) → ended-with self r (now (body .entry)) ≡ spec.judge (assembled self settings (now (body .entry)) bytes) sum) ⌝ }
     {
         let status = self.status;
         let mut held = settings;

@@ -9,7 +9,6 @@ use Rattle.controller.specs.declared.bus.Controller.{Controller}
 use Rattle.controller.specs.Bus.{after, out}
 use Rattle.controller.specs.BusState.{assembled}
 use Rattle.controller.specs.Run.{run, outs, run-more}
-use Rattle.controller.proofs.Assembled.{judge-assembled}
 use Rattle.controller.proofs.Sent.{sent-more, take-least, drop-least}
 use Rattle.controller.proofs.run.exchange_all.Statement.{statement}
 use Rattle.controller.proofs.run.exchange_all.Tie as tie
@@ -88,7 +87,7 @@ loop-again c =
     let out-is : sent .out .result ≡ out (run start (take (l .i) input)) = sent .out .ensures (l .settings) (l .body) ∙ ap out (l .inv .1) in (
       search needs,
       ⊎-elim (λ next. rw (next .3, next .4, next .5) ((rw (next .1 .given .1) at step) ∙ more))
-          (λ sum. rw (sum .9, sum .10, sum .11, sum .8 .ensures, sum .4 .ensures) (judge-assembled (l .state) (l .settings) _ _ _ ∙ (rw (sum .1 .given .1) at step) ∙ more))
+          (λ sum. rw (sum .9, sum .10, sum .11, sum .8 .ensures) (sum .4 .ensures _ ∙ (rw (sum .1 .given .1) at step) ∙ more))
           (c .match .came),
       rw (out-is, l .inv .2) (sent-more start input output (l .i) within room),
       simp length-set (l .inv .3),

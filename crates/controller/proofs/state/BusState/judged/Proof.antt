@@ -1,10 +1,12 @@
+use Prim.Native.Nat.{ℕ}
+use mathlib.Core.List.{List}
 use native.Mathlib.Omega.{arith}
 use mathlib.Core.Path.{_≡_, sym}
 use lib.ListN.{length}
 use lib.Seq.{length-take-le}
 use borrow.Author.Needs.{needs}
 use Rattle.packet.proofs.Tests.{tests}
-use Rattle.controller.specs.BusState.{judged}
+use Rattle.controller.specs.Bus.{judge}
 use Rattle.controller.proofs.state.BusState.judged.Statement.{statement}
 use Rattle.controller.proofs.state.BusState.judged.Tie as tie
 
@@ -21,8 +23,8 @@ perform-requires : tie.Need-perform-requires
 perform-requires c κs = search needs
 
 returns : tie.Need-returns
-unfolding judged
-returns c = search (needs, tests, c .perform .ensures)
+unfolding judge
+returns c = λ (bytes : List ℕ). search (needs, tests, c .perform .ensures)
 
 flagged-requires : tie.Need-flagged-requires
 flagged-requires c κs = search needs
@@ -31,8 +33,8 @@ response-requires : tie.Need-response-requires
 response-requires c κs = search needs
 
 returns-2 : tie.Need-returns-2
-unfolding judged
-returns-2 c = search (needs, tests, c .response .ensures, c .before .flagged .ensures)
+unfolding judge
+returns-2 c = λ (bytes : List ℕ). search (needs, tests, c .response .ensures, c .before .flagged .ensures)
 
 pub judged-spec : {M : Type 1} → statement M
 judged-spec =
