@@ -1,27 +1,28 @@
 -- What a step does to a state is what Bus does to the controller that the state is part of.
-use Prim.Native.Nat.{ℕ, _≤_}
+use Prim.Native.Nat.{ℕ, _≤_, _<_}
 use native.Mathlib.Omega.{arith}
 use mathlib.Core.Path.{_≡_, refl}
 use mathlib.Core.Bool.{Bool, true, false, cond}
 use mathlib.Core.List.{List}
 use lib.ListN.{replicate}
 use lib.Dec.{eqb}
-use borrow.Author.Tests.{eq-eqb, ne-eqb, le-ltb}
+use borrow.Author.Tests.{eq-eqb, ne-eqb, le-ltb, lt-ltb}
 use Rattle.settings.specs.declared.settings.Settings.{Settings}
 use Rattle.settings.specs.declared.settings.Flag.the-variants.{Incomplete, BytesIgnored}
 use Rattle.settings.specs.Settings as settings-spec
+use Rattle.registers.specs.Commands.{reply-limit}
 use Rattle.controller.specs.declared.bus.Controller.{Controller}
 use Rattle.controller.specs.declared.state.BusState.{BusState}
 use Rattle.controller.specs.Bus as bus
 use Rattle.controller.specs.BusState.{state-of, assembled, alone, opens, unescaped}
 
 module _ (s : BusState) (σ : Settings) (body bytes : List ℕ) where
-  pub start-assembled : assembled (state-of (bus.start (alone s))) σ body (replicate 11 0) ≡ bus.start (assembled s σ body bytes)
+  pub start-assembled : assembled (state-of (bus.start (alone s))) σ body (replicate reply-limit 0) ≡ bus.start (assembled s σ body bytes)
   unfolding bus.start settings-spec.flagged
   start-assembled = by-test (bus.is-idle (s .phase))
     where
       by-test : (t : Bool) →
-          assembled (state-of (cond t (bus.started (alone s)) (bus.started (bus.flagged (alone s) Incomplete)))) σ body (replicate 11 0)
+          assembled (state-of (cond t (bus.started (alone s)) (bus.started (bus.flagged (alone s) Incomplete)))) σ body (replicate reply-limit 0)
           ≡ cond t (bus.started (assembled s σ body bytes)) (bus.started (bus.flagged (assembled s σ body bytes) Incomplete))
       by-test true = refl
       by-test false = refl
@@ -58,6 +59,10 @@ module _ (c : Controller) (b : ℕ) where
   pub starts : b ≡ 0xA5 → bus.after c b ≡ bus.start c
   unfolding bus.after
   starts h = rw (eq-eqb b 0xA5 h)
+
+  pub replies : (b ≡ 0xA5 → ⊥) → c .reply .sent < c .reply .len → bus.after c b ≡ bus.one-sent c
+  unfolding bus.after
+  replies h s = rw (ne-eqb b 0xA5 h, lt-ltb (c .reply .sent) (c .reply .len) s)
 
   pub ignores : (b ≡ 0xA5 → ⊥) → c .reply .len ≤ c .reply .sent → bus.is-idle (c .phase) ≡ true → bus.after c b ≡ bus.outside c b
   unfolding bus.after

@@ -1,6 +1,7 @@
 // The controller, and its exchange: a byte in, a byte out, and the controller after it.
 use crate::run::exchange_all;
 use registers::Outgoing;
+use registers::REPLY_LIMIT;
 use settings::Settings;
 ghost use mathlib.Core.Path.{_≡_};
 ghost use Rattle.controller.specs.Bus as spec;
@@ -39,7 +40,7 @@ fn nothing_unsent() -> Outgoing
     ensures { λ r. ⌜ r ≡ spec.nothing-unsent ⌝ }
 {
     Outgoing {
-        bytes: [0; 11],
+        bytes: [0; REPLY_LIMIT],
         len: 0,
         sent: 0,
     }

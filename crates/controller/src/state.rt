@@ -6,6 +6,7 @@ use crate::bus::Phase;
 use number::byte;
 use registers::Outgoing;
 use registers::Performed;
+use registers::REPLY_LIMIT;
 use registers::perform;
 use registers::response;
 use settings::Flag;
@@ -139,7 +140,7 @@ impl BusState {
         self,
         settings: Settings,
         body: [u8; 255],
-        bytes: [u8; 11],
+        bytes: [u8; REPLY_LIMIT],
     ) -> Controller
         ensures { λ r. ⌜ r ≡ assembled self settings body bytes ⌝ }
     {
@@ -329,7 +330,7 @@ impl BusState {
     }
 
     // The byte sent out.
-    pub(crate) fn out(self, bytes: &[u8; 11]) -> u8
+    pub(crate) fn out(self, bytes: &[u8; REPLY_LIMIT]) -> u8
         ensures { λ r. ⌜ ((σ : Settings) (body : List ℕ) → r ≡ spec.out (assembled self σ body (now (bytes .entry)))) ⌝ }
     {
         let sent = self.sent;
@@ -340,11 +341,11 @@ impl BusState {
     }
 
     // The byte in.
-    pub(crate) fn after(self, byte: u8, body: &mut [u8; 255], bytes: &mut [u8; 11]) -> Step
+    pub(crate) fn after(self, byte: u8, body: &mut [u8; 255], bytes: &mut [u8; REPLY_LIMIT]) -> Step
         ensures { λ r. ⌜ Steps (λ c. spec.after c byte) self (now (body .entry)) (now (bytes .entry)) r (now (body .exit)) (now (bytes .exit)) ⌝ }
     {
         if byte == 0xA5 {
-            let none = [0; 11];
+            let none = [0; REPLY_LIMIT];
             *bytes = none;
             return Step::Next(self.start());
         }

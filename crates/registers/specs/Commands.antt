@@ -173,9 +173,13 @@ written σ Pixels d = settings-of (σ .backlight) (σ .master) (σ .park) (σ .s
 
 -- ---- a command's effect and reply
 
+-- the longest reply: a response, a length, 8 data bytes and a sum
+abbrev pub reply-limit : ℕ
+reply-limit = 11
+
 -- a reply of which nothing is sent yet
 abbrev pub outgoing : List ℕ → Outgoing
-outgoing bytes = record { bytes = overwritten bytes (replicate 11 0); len = length bytes; sent = 0 }
+outgoing bytes = record { bytes = overwritten bytes (replicate reply-limit 0); len = length bytes; sent = 0 }
 
 abbrev pub failed : Settings → Flag → ℕ → Performed
 failed σ flag code = record { settings = flagged σ flag; reply = outgoing (code ∷ []) }

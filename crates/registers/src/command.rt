@@ -44,9 +44,12 @@ pub enum Lookup {
     Unknown,
 }
 
+// The longest reply: a response, a length, 8 data bytes and a sum.
+pub const REPLY_LIMIT: usize = 11;
+
 // A reply on its way out: its first len bytes, of which sent are out.
 pub struct Outgoing {
-    pub bytes: [u8; 11],
+    pub bytes: [u8; REPLY_LIMIT],
     pub len: u8,
     pub sent: u8,
 }
@@ -167,9 +170,9 @@ pub fn response(code: u8) -> Outgoing
 }
 
 // The data of a reply behind its response and its length.
-fn payload(bytes: &[u8], count: u8) -> [u8; 11]
+fn payload(bytes: &[u8], count: u8) -> [u8; REPLY_LIMIT]
     requires { ⌜ (length (now bytes) ≤ 8) × (count ≡ length (now bytes)) ⌝ }
-    ensures { λ r. ⌜ r ≡ overwritten (0x01 ∷ count ∷ now (bytes .entry)) (replicate 11 0) ⌝ }
+    ensures { λ r. ⌜ r ≡ overwritten (0x01 ∷ count ∷ now (bytes .entry)) (replicate spec.reply-limit 0) ⌝ }
 {
     let mut out = [0x01, count, 0, 0, 0, 0, 0, 0, 0, 0, 0];
     store(bytes, &mut out, 2);

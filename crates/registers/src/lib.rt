@@ -9,6 +9,7 @@ pub use block_bytes::from_block;
 pub use command::Lookup;
 pub use command::Outgoing;
 pub use command::Performed;
+pub use command::REPLY_LIMIT;
 pub use command::Register;
 pub use command::access;
 pub use command::perform;

@@ -17,7 +17,7 @@ array-read-t12 c = search needs
 
 returns : tie.Need-returns
 unfolding run outs
-returns c = search (needs, c .before .exchange-all .ensures .0, c .before .exchange-all .ensures .1)
+returns c = rw (c .before .exchange-all .ensures .0, c .before .exchange-all .ensures .1)
 
 pub exchange-spec : {M : Type 1} → statement M
 exchange-spec =

@@ -1,10 +1,8 @@
 use mathlib.Core.Path.{sym, _∙_}
 use borrow.Author.Needs.{needs}
-use Rattle.packet.proofs.Tests.{tests}
 use Rattle.settings.specs.declared.settings.Settings.{Settings}
-use Rattle.controller.specs.Bus.{after}
 use Rattle.controller.specs.BusState.{assembled}
-use Rattle.controller.proofs.Assembled.{start-assembled, outside-assembled, starts, ignores, enters}
+use Rattle.controller.proofs.Assembled.{start-assembled, outside-assembled, starts, replies, ignores, enters}
 use Rattle.controller.proofs.state.BusState.after.Statement.{statement}
 use Rattle.controller.proofs.state.BusState.after.Tie as tie
 
@@ -21,8 +19,10 @@ one-sent-requires : tie.Need-one-sent-requires
 one-sent-requires c κs = search needs
 
 returns-2 : tie.Need-returns-2
-unfolding after
-returns-2 c = λ (σ : Settings). search (needs, tests, c .one-sent .ensures)
+returns-2 c = λ (σ : Settings).
+    let a = c .before .before .before .before .args in
+    let k = assembled (a .self) σ (a .body .now) (a .bytes .now) in
+    rw (c .one-sent .ensures) (sym (replies k (a .byte) (c .before .before .before .if1 .left) (c .before .if2 .taken)))
 
 is-idle-requires : tie.Need-is-idle-requires
 is-idle-requires c κs = search needs
