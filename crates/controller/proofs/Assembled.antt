@@ -1,6 +1,5 @@
 -- What a step does to a state is what Bus does to the controller that the state is part of.
 use Prim.Native.Nat.{ℕ, _≤_, _<_}
-use native.Mathlib.Omega.{arith}
 use mathlib.Core.Path.{_≡_, refl}
 use mathlib.Core.Bool.{Bool, true, false, cond}
 use mathlib.Core.List.{List}
@@ -14,7 +13,7 @@ use Rattle.registers.specs.Commands.{reply-limit}
 use Rattle.controller.specs.declared.bus.Controller.{Controller}
 use Rattle.controller.specs.declared.state.BusState.{BusState}
 use Rattle.controller.specs.Bus as bus
-use Rattle.controller.specs.BusState.{state-of, assembled, alone, opens, unescaped}
+use Rattle.controller.specs.BusState.{state-of, assembled, alone, unescaped}
 
 module _ (s : BusState) (σ : Settings) (body bytes : List ℕ) where
   pub start-assembled : assembled (state-of (bus.start (alone s))) σ body (replicate reply-limit 0) ≡ bus.start (assembled s σ body bytes)
@@ -37,25 +36,20 @@ module _ (s : BusState) (σ : Settings) (body bytes : List ℕ) where
       by-test true = refl
       by-test false = refl
 
--- a byte that starts no escape is fed
+-- the branches of `inside` and `after`, by what the code's tests show
 module _ (c : Controller) (b : ℕ) where
-  pub opens-inside : opens (c .escape) b ≡ true → bus.escape-open c ≡ bus.inside c b
-  unfolding opens bus.inside
-  opens-inside = by-escape (c .escape)
-    where
-      by-escape : (e : Bool) → opens e b ≡ true → bus.escape-open c ≡ cond e (bus.feed c (cond (eqb b 0x00) 0xA5 b)) (cond (eqb b 0x5A) (bus.escape-open c) (bus.feed c b))
-      by-escape true t = let z : _≡_ {A = ℕ} 0 1 = cc in absurd (omega arith)
-      by-escape false t = rw t
+  pub feeds-escaped : c .escape ≡ true → bus.inside c b ≡ bus.feed c (unescaped b)
+  unfolding unescaped bus.inside
+  feeds-escaped e = rw e
 
-  pub feeds-inside : opens (c .escape) b ≡ false → bus.feed c (unescaped (c .escape) b) ≡ bus.inside c b
-  unfolding opens unescaped bus.inside
-  feeds-inside = by-escape (c .escape)
-    where
-      by-escape : (e : Bool) → opens e b ≡ false → bus.feed c (unescaped e b) ≡ cond e (bus.feed c (cond (eqb b 0x00) 0xA5 b)) (cond (eqb b 0x5A) (bus.escape-open c) (bus.feed c b))
-      by-escape true t = refl
-      by-escape false t = rw t
+  pub opens : c .escape ≡ false → b ≡ 0x5A → bus.inside c b ≡ bus.escape-open c
+  unfolding bus.inside
+  opens e h = rw (e, eq-eqb b 0x5A h)
 
-  -- the branches of `after`, by what the code's tests show
+  pub feeds : c .escape ≡ false → (b ≡ 0x5A → ⊥) → bus.inside c b ≡ bus.feed c b
+  unfolding bus.inside
+  feeds e h = rw (e, ne-eqb b 0x5A h)
+
   pub starts : b ≡ 0xA5 → bus.after c b ≡ bus.start c
   unfolding bus.after
   starts h = rw (eq-eqb b 0xA5 h)

@@ -2,7 +2,7 @@
 -- Each step on a state is told by Bus's step on the controller that the parts make up.
 use Prim.Native.Nat.{ℕ}
 use mathlib.Core.Path.{_≡_}
-use mathlib.Core.Bool.{Bool, false, cond}
+use mathlib.Core.Bool.{cond}
 use mathlib.Core.List.{List, []}
 use lib.Dec.{eqb}
 use Rattle.controller.specs.declared.bus.Controller.{Controller}
@@ -51,9 +51,6 @@ Steps f s body bytes r body′ bytes′ = (σ : Settings) → finished s r σ bo
 abbrev pub ended-with : BusState → Performed → List ℕ → Controller
 ended-with s done body = assembled (state-of (ended (alone s) (done .settings) (done .reply))) (done .settings) body (done .reply .bytes)
 
--- whether a byte of the open packet starts an escape
-unfoldable pub opens : Bool → ℕ → Bool
-opens escape byte = cond escape false (eqb byte 0x5A)
-
-unfoldable pub unescaped : Bool → ℕ → ℕ
-unescaped escape byte = cond escape (cond (eqb byte 0x00) 0xA5 byte) byte
+-- the byte that an escape stands for
+unfoldable pub unescaped : ℕ → ℕ
+unescaped byte = cond (eqb byte 0x00) 0xA5 byte

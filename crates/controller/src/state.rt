@@ -12,12 +12,13 @@ use registers::response;
 use settings::Flag;
 use settings::Settings;
 use settings::StatusBytes;
+use std::num::wrapping_sub_u8;
 ghost use mathlib.Core.Path.{_≡_};
 ghost use mathlib.Core.List.{List};
 ghost use Prim.Native.Nat.{ℕ, _<_};
 ghost use lib.ListN.{set};
 ghost use Rattle.controller.specs.Bus as spec;
-ghost use Rattle.controller.specs.BusState.{state-of, alone, assembled, Steps, ended-with, opens as opens-escape, unescaped as out-of-escape};
+ghost use Rattle.controller.specs.BusState.{state-of, alone, assembled, Steps, ended-with, unescaped as out-of-escape};
 
 // A controller but for its two arrays and its settings, of which it has the status bits.
 pub struct BusState {
@@ -55,16 +56,6 @@ fn add(sum: u8, byte: u8) -> u8
     (((sum as u16) + (byte as u16)) % 256) as u8
 }
 
-// The place of the next data byte, of count where left are left.
-fn place(count: u8, left: u8) -> usize
-    ensures { λ r. ⌜ r ≡ spec.place count left ⌝ }
-{
-    if left <= count {
-        return (count - left) as usize;
-    }
-    0
-}
-
 fn after_length(count: u8) -> Phase
     ensures { λ r. ⌜ r ≡ spec.after-length count ⌝ }
 {
@@ -83,26 +74,24 @@ fn after_data(left: u8) -> Phase
     Phase::Data(left - 1)
 }
 
-// Whether a byte of the open packet starts an escape.
-fn opens(escape: bool, byte: u8) -> bool
-    ensures { λ r. ⌜ r ≡ opens-escape escape byte ⌝ }
+// The byte that an escape stands for.
+fn unescaped(byte: u8) -> u8
+    ensures { λ r. ⌜ r ≡ out-of-escape byte ⌝ }
 {
-    if escape {
-        return false;
-    }
-    byte == 0x5A
-}
-
-fn unescaped(escape: bool, byte: u8) -> u8
-    ensures { λ r. ⌜ r ≡ out-of-escape escape byte ⌝ }
-{
-    if escape {
-        if byte == 0x00 {
-            return 0xA5;
-        }
-        return byte;
+    if byte == 0x00 {
+        return 0xA5;
     }
     byte
+}
+
+// The place of the next data byte, of count where left are left.
+fn place(count: u8, left: u8) -> usize
+    ensures { λ r. ⌜ r ≡ spec.place count left ⌝ }
+{
+    if left <= count {
+        return (count - left) as usize;
+    }
+    0
 }
 
 // A value past the end is left out.
@@ -113,6 +102,19 @@ fn put(body: &mut [u8], at: usize, value: u8)
         body[at] = value;
         return;
     }
+}
+
+// Keeps a data byte at its place. One test tells that the place is within the data, as in every controller that exchanges
+// lead to; the rest is for the others.
+fn keep(body: &mut [u8; 255], count: u8, left: u8, value: u8)
+    ensures { λ _. ⌜ now (body .exit) ≡ set (now (body .entry)) (spec.place count left) value ⌝ }
+{
+    if wrapping_sub_u8(left, 1) < count {
+        let at = (count - left) as usize;
+        body[at] = value;
+        return;
+    }
+    put(body, place(count, left), value);
 }
 
 impl BusState {
@@ -269,7 +271,7 @@ impl BusState {
             Phase::Command => Step::Next(self.with_command(value)),
             Phase::Length => Step::Next(self.with_length(value)),
             Phase::Data(left) => {
-                put(body, place(self.count, left), value);
+                keep(body, self.count, left, value);
                 Step::Next(self.with_data(left, value))
             }
             Phase::Checksum => Step::Checksum(value),
@@ -296,10 +298,13 @@ impl BusState {
     fn inside(self, byte: u8, body: &mut [u8; 255]) -> Step
         ensures { λ r. ⌜ ((bytes : List ℕ) → Steps (λ c. spec.inside c byte) self (now (body .entry)) bytes r (now (body .exit)) bytes) ⌝ }
     {
-        if opens(self.escape, byte) {
+        if self.escape {
+            return self.feed(unescaped(byte), body);
+        }
+        if byte == 0x5A {
             return Step::Next(self.escape_open());
         }
-        self.feed(unescaped(self.escape, byte), body)
+        self.feed(byte, body)
     }
 
     fn outside(self, byte: u8) -> BusState

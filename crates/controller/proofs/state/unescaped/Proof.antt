@@ -6,15 +6,11 @@ use Rattle.controller.proofs.state.unescaped.Tie as tie
 
 returns : tie.Need-returns
 unfolding unescaped
-returns c = search (needs, tests, c .before .if1 .taken)
+returns c = search (needs, tests)
 
 returns-2 : tie.Need-returns-2
 unfolding unescaped
-returns-2 c = search (needs, tests, c .before .if1 .taken)
-
-returns-3 : tie.Need-returns-3
-unfolding unescaped
-returns-3 c = search (needs, tests, c .if1 .left)
+returns-2 c = search (needs, tests)
 
 pub unescaped-spec : {M : Type 1} → statement M
-unescaped-spec = tie.close (tie.spec returns returns-2 returns-3)
+unescaped-spec = tie.close (tie.spec returns returns-2)

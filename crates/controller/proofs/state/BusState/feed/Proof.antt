@@ -25,11 +25,8 @@ with-length-requires c κs = search needs
 enum-known-phase : tie.Need-enum-known-phase
 enum-known-phase c = search needs
 
-place-requires : tie.Need-place-requires
-place-requires c κs = search needs
-
-put-requires : tie.Need-put-requires
-put-requires c κs = search needs
+keep-requires : tie.Need-keep-requires
+keep-requires c κs = search needs
 
 with-data-requires : tie.Need-with-data-requires
 with-data-requires c κs = search needs
@@ -51,7 +48,7 @@ returns-3 c = λ (bytes : List ℕ) (σ : Settings). search (needs, tests, c .wi
 
 returns-4 : tie.Need-returns-4
 unfolding feed-at
-returns-4 c = λ (bytes : List ℕ) (σ : Settings). search (needs, tests, c .with-data .ensures, c .before .put .ensures, c .before .before .place .ensures, c .before .before .before .before .before .phase .given .1)
+returns-4 c = λ (bytes : List ℕ) (σ : Settings). search (needs, tests, c .with-data .ensures, c .before .keep .ensures, c .before .before .before .before .phase .given .1)
 
 returns-5 : tie.Need-returns-5
 unfolding feed-at
@@ -67,8 +64,7 @@ feed-spec =
     enum-told-3
     with-length-requires
     enum-known-phase
-    place-requires
-    put-requires
+    keep-requires
     with-data-requires
     enum-told-4
     returns
