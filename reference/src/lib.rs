@@ -1,13 +1,18 @@
 //! A second reading of document 01: controller, packet writer, reply reader,
-//! cab box, office end, and the script interpreter that drives them.
+//! cab box, office end, and the script interpreter that drives them; beside it
+//! the controller once more, written for speed, and what the programs share.
 
 #![forbid(unsafe_code)]
 
+pub mod bench;
 pub mod cab;
 pub mod controller;
 pub mod link;
 pub mod office;
 pub mod packet;
+pub mod plain;
 pub mod refusal;
+pub mod rng;
 pub mod script;
 pub mod settings;
+pub mod traffic;

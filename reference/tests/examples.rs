@@ -1,6 +1,9 @@
 //! The fixed examples of document 01 and the built ones of DLPU057A section 4,
 //! with the bytes printed there.
 
+mod common;
+
+use common::hex;
 use reference::cab::{Cab, Refused};
 use reference::controller::Controller;
 use reference::link::{Frame, Order};
@@ -9,12 +12,6 @@ use reference::packet::{Way, read_reply, write_packet};
 use reference::refusal::Refusal;
 use reference::script::Simulation;
 use reference::settings::{Heater, Settings};
-
-fn hex(text: &str) -> Vec<u8> {
-    text.split_whitespace()
-        .map(|word| u8::from_str_radix(word, 16).unwrap())
-        .collect()
-}
 
 /// Sends the bytes, then 00: the reply comes at once, and nothing after it.
 fn answers(controller: &mut Controller, bytes: &str, reply: &str) {

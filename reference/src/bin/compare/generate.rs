@@ -3,11 +3,12 @@
 use std::collections::BTreeSet;
 
 use reference::office::Office;
+use reference::rng::Rng;
 use reference::script::{Answer, Log, Simulation};
+use reference::traffic;
 
+use crate::frames::{self, Aim};
 use crate::lines;
-use crate::rng::Rng;
-use crate::traffic::{self, Aim};
 
 pub struct Script {
     pub lines: Vec<Vec<u8>>,
@@ -314,8 +315,8 @@ impl Generator {
         let (word, step) = match self.rng.below(10) {
             0..=4 if target >= level => ("raise", target - level),
             0..=4 => ("lower", level - target),
-            5 | 6 => ("raise", self.rng.next() as u16),
-            7 | 8 => ("lower", self.rng.next() as u16),
+            5 | 6 => ("raise", self.rng.number() as u16),
+            7 | 8 => ("lower", self.rng.number() as u16),
             _ => {
                 let step = self.rng.pick(&[0, 1, 255, 256, 32768, 65534, 65535]);
                 (self.rng.pick(&["raise", "lower"]), step)
@@ -374,10 +375,10 @@ impl Generator {
             ],
         };
         let bytes = match self.rng.weighted(&[50, 25, 10, 13, 2]) {
-            0 => traffic::frame(&mut self.rng, &aim),
+            0 => frames::frame(&mut self.rng, &aim),
             1 => {
-                let frame = traffic::frame(&mut self.rng, &aim);
-                traffic::damaged(&mut self.rng, frame)
+                let frame = frames::frame(&mut self.rng, &aim);
+                frames::damaged(&mut self.rng, frame)
             }
             2 => {
                 let length = self.rng.below(45);
@@ -397,7 +398,7 @@ impl Generator {
                     .unwrap_or(&[])
                     .to_vec();
                 if self.rng.chance(70) {
-                    traffic::damaged(&mut self.rng, frame)
+                    frames::damaged(&mut self.rng, frame)
                 } else {
                     frame
                 }
@@ -485,7 +486,7 @@ fn next_frame(rng: &mut Rng, log: &Log, had: &mut u64) -> u64 {
             written
         }
         2 => written.saturating_sub(rng.below(12) as u64),
-        3 if written > 0 => 1 + rng.next() % written,
+        3 if written > 0 => 1 + rng.number() % written,
         _ => written + 1,
     }
 }

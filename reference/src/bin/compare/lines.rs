@@ -1,6 +1,6 @@
 //! Lines that are no calls, and calls written oddly.
 
-use crate::rng::Rng;
+use reference::rng::Rng;
 
 const ODD: &[&str] = &[
     "",

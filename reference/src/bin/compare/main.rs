@@ -4,12 +4,11 @@
 #![forbid(unsafe_code)]
 
 mod check;
+mod frames;
 mod generate;
 mod lines;
-mod rng;
 mod run;
 mod shrink;
-mod traffic;
 
 use std::env;
 use std::fs;
@@ -17,8 +16,9 @@ use std::io;
 use std::path::{Path, PathBuf};
 use std::process::ExitCode;
 
+use reference::rng::Rng;
+
 use generate::Script;
-use rng::Rng;
 
 const CALLS: usize = 200_000;
 const SEED: u64 = 1;

@@ -5,11 +5,11 @@ pub struct Rng(u64);
 impl Rng {
     pub fn new(seed: u64, stream: u64) -> Rng {
         let mut rng = Rng(seed);
-        let mixed = rng.next() ^ stream.wrapping_mul(0xD1B5_4A32_D192_ED03);
+        let mixed = rng.number() ^ stream.wrapping_mul(0xD1B5_4A32_D192_ED03);
         Rng(mixed)
     }
 
-    pub fn next(&mut self) -> u64 {
+    pub fn number(&mut self) -> u64 {
         self.0 = self.0.wrapping_add(0x9E37_79B9_7F4A_7C15);
         let mut z = self.0;
         z = (z ^ (z >> 30)).wrapping_mul(0xBF58_476D_1CE4_E5B9);
@@ -19,7 +19,7 @@ impl Rng {
 
     /// A number below `bound`, which is above 0.
     pub fn below(&mut self, bound: usize) -> usize {
-        (self.next() % bound as u64) as usize
+        (self.number() % bound as u64) as usize
     }
 
     /// A number from `low` to `high`, both included.
@@ -52,7 +52,7 @@ impl Rng {
         if self.chance(30) {
             self.pick(&[0xA5, 0x5A, 0x00, 0xFF, 0x01, 0x02, 0x64, 0x65])
         } else {
-            self.next() as u8
+            self.number() as u8
         }
     }
 

@@ -1,0 +1,158 @@
+//! The controller written for speed: document 01's examples of the bus, with the bytes printed there,
+//! and random traffic beside the other controller.
+
+mod common;
+
+use common::hex;
+use reference::controller::Controller;
+use reference::rng::Rng;
+use reference::{plain, traffic};
+
+const STREAMS: u64 = 40;
+const STREAM_BYTES: usize = 10_000;
+
+fn exchanged(controller: &mut plain::Controller, input: &[u8]) -> Vec<u8> {
+    let mut output = vec![0x00; input.len()];
+    controller.exchange_all(input, &mut output);
+    output
+}
+
+/// A fresh controller gets each of the bytes, then 00: the reply comes at once, and nothing after it.
+fn fresh_answers(requests: &[(&str, &str)]) {
+    let mut controller = plain::Controller::fresh();
+    for (bytes, reply) in requests {
+        let (sent, reply) = (hex(bytes), hex(reply));
+        let input = [&sent[..], &vec![0x00; reply.len() + 1]].concat();
+        let output = [vec![0xFF; sent.len()], reply, vec![0xFF]].concat();
+        assert_eq!(exchanged(&mut controller, &input), output, "{bytes}");
+    }
+}
+
+#[test]
+fn examples() {
+    let level = "A5 01 00 01";
+    let status = "A5 67 00 67";
+    let answers = fresh_answers;
+    answers(&[("A5 00 02 FF FF 00", "01"), (level, "01 02 FF FF 01")]);
+    answers(&[("A5 00 02 B8 88 42", "01"), (level, "01 02 B8 88 43")]);
+    answers(&[
+        ("A5 00 02 5A 00 5A 5A 01", "01"),
+        (level, "01 02 A5 5A 02"),
+        (status, "01 04 00 00 00 80 85"),
+    ]);
+    answers(&[("A5 00 02 A3 00 5A 00", "01"), (level, "01 02 A3 00 A6")]);
+
+    answers(&[("A5 00 02 FF FF 01", "02"), (status, "01 04 00 00 00 10 15")]);
+    answers(&[("A5 07 00 07", "03"), (status, "01 04 01 00 00 00 06")]);
+    answers(&[("A5 00 01 FF 00", "05"), (status, "01 04 00 00 00 40 45")]);
+    answers(&[("A5 4C 01 02 4F", "01"), ("A5 4D 00 4D", "01 01 02 04")]);
+    answers(&[
+        ("A5 4C 01 03 50", "07"),
+        ("A5 4D 00 4D", "01 01 00 02"),
+        (status, "01 04 00 20 00 00 25"),
+    ]);
+    answers(&[
+        ("A5 00 A5 67 00 67", "01 04 08 00 00 00 0D"),
+        (status, "01 04 00 00 00 00 05"),
+    ]);
+    answers(&[
+        ("A5 50 06 05 00 00 07 00 01 63", "01"),
+        ("A5 51 00 51", "01 06 05 00 00 07 00 01 14"),
+    ]);
+
+    answers(&[
+        ("A5 02 01 00 03", "01"),
+        (level, "04"),
+        ("A5 03 00 03", "01 01 00 02"),
+    ]);
+    answers(&[
+        ("A5 4E 03 01 02 64 B8", "01"),
+        ("A5 4E 03 01 02 65 B9", "07"),
+        ("A5 4F 00 4F", "01 03 01 02 64 6B"),
+    ]);
+    answers(&[
+        ("A5 00 02 5A A5 01 00 01", "01 02 00 00 03"),
+        (status, "01 04 08 00 00 80 8D"),
+    ]);
+}
+
+/// Both controllers, which must never send out different bytes.
+struct Pair {
+    stream: u64,
+    reference: Controller,
+    plain: plain::Controller,
+    /// Status bits met so far.
+    seen: [u8; 4],
+}
+
+impl Pair {
+    fn fresh(stream: u64) -> Self {
+        Pair {
+            stream,
+            reference: Controller::fresh(),
+            plain: plain::Controller::fresh(),
+            seen: [0; 4],
+        }
+    }
+
+    fn exchanged(&mut self, input: &[u8]) -> Vec<u8> {
+        let output = exchanged(&mut self.plain, input);
+        for (place, byte) in input.iter().enumerate() {
+            let expected = self.reference.exchange(*byte);
+            assert_eq!(
+                output[place],
+                expected,
+                "stream {}, after the bytes {:02X?}",
+                self.stream,
+                &input[place.saturating_sub(30)..place]
+            );
+            for (seen, bits) in self.seen.iter_mut().zip(self.reference.settings().status) {
+                *seen |= bits;
+            }
+        }
+        output
+    }
+
+    /// Reads every register through the bus.
+    fn read_all(&mut self) {
+        let read = |command| vec![0xA5, command, 0x00, command];
+        // Master as it is, then on, so that the others answer; status last, since the rest may set it.
+        let first = [read(0x03), hex("A5 02 01 01 04")];
+        let rest = [0x01, 0x05, 0x4B, 0x4D, 0x4F, 0x51, 0xA7, 0x67].map(read);
+        for packet in first.into_iter().chain(rest) {
+            let output = self.exchanged(&[&packet[..], &[0x00; 11]].concat());
+            assert_eq!(output[packet.len()], 0x01, "{packet:02X?}");
+        }
+    }
+}
+
+#[test]
+fn random_traffic() {
+    let mut seen = [0; 4];
+    for stream in 0..STREAMS {
+        let mut rng = Rng::new(1, stream);
+        let mut bytes = Vec::new();
+        while bytes.len() < STREAM_BYTES {
+            bytes.extend(traffic::bus(&mut rng));
+        }
+        let mut pair = Pair::fresh(stream);
+        let mut rest = &bytes[..];
+        while !rest.is_empty() {
+            let most = rng.pick(&[0, 1, 2, 10, 300, 5000]);
+            let (run, after) = rest.split_at(rng.between(0, most).min(rest.len()));
+            pair.exchanged(run);
+            rest = after;
+        }
+        pair.read_all();
+        for (seen, bits) in seen.iter_mut().zip(pair.seen) {
+            *seen |= bits;
+        }
+    }
+    assert_eq!(seen, [0x0D, 0x20, 0x00, 0xF0], "all status bits are met");
+}
+
+#[test]
+#[should_panic(expected = "a byte out for each byte in")]
+fn lengths_that_differ() {
+    plain::Controller::fresh().exchange_all(&[0xA5, 0x01], &mut [0x00]);
+}
