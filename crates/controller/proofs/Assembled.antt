@@ -5,7 +5,7 @@ use mathlib.Core.Bool.{Bool, true, false, cond}
 use mathlib.Core.List.{List}
 use lib.ListN.{replicate}
 use lib.Dec.{eqb}
-use borrow.Author.Tests.{eq-eqb, ne-eqb, le-ltb, lt-ltb}
+use Rattle.packet.proofs.Tests.{tests}
 use Rattle.settings.specs.declared.settings.Settings.{Settings}
 use Rattle.settings.specs.declared.settings.Flag.the-variants.{Incomplete, BytesIgnored}
 use Rattle.settings.specs.Settings as settings-spec
@@ -40,28 +40,28 @@ module _ (s : BusState) (σ : Settings) (body bytes : List ℕ) where
 module _ (c : Controller) (b : ℕ) where
   pub feeds-escaped : c .escape ≡ true → bus.inside c b ≡ bus.feed c (unescaped b)
   unfolding unescaped bus.inside
-  feeds-escaped e = rw e
+  feeds-escaped e = search e
 
   pub opens : c .escape ≡ false → b ≡ 0x5A → bus.inside c b ≡ bus.escape-open c
   unfolding bus.inside
-  opens e h = rw (e, eq-eqb b 0x5A h)
+  opens e h = search (tests, e, h)
 
   pub feeds : c .escape ≡ false → (b ≡ 0x5A → ⊥) → bus.inside c b ≡ bus.feed c b
   unfolding bus.inside
-  feeds e h = rw (e, ne-eqb b 0x5A h)
+  feeds e h = search (tests, e, h)
 
   pub starts : b ≡ 0xA5 → bus.after c b ≡ bus.start c
   unfolding bus.after
-  starts h = rw (eq-eqb b 0xA5 h)
+  starts h = search (tests, h)
 
   pub replies : (b ≡ 0xA5 → ⊥) → c .reply .sent < c .reply .len → bus.after c b ≡ bus.one-sent c
   unfolding bus.after
-  replies h s = rw (ne-eqb b 0xA5 h, lt-ltb (c .reply .sent) (c .reply .len) s)
+  replies h s = search (tests, h, s)
 
   pub ignores : (b ≡ 0xA5 → ⊥) → c .reply .len ≤ c .reply .sent → bus.is-idle (c .phase) ≡ true → bus.after c b ≡ bus.outside c b
   unfolding bus.after
-  ignores h s i = rw (ne-eqb b 0xA5 h, le-ltb (c .reply .sent) (c .reply .len) s, i)
+  ignores h s i = search (tests, h, s, i)
 
   pub enters : (b ≡ 0xA5 → ⊥) → c .reply .len ≤ c .reply .sent → bus.is-idle (c .phase) ≡ false → bus.after c b ≡ bus.inside c b
   unfolding bus.after
-  enters h s i = rw (ne-eqb b 0xA5 h, le-ltb (c .reply .sent) (c .reply .len) s, i)
+  enters h s i = search (tests, h, s, i)
