@@ -15,10 +15,10 @@ use std::{env, fs, io, thread};
 use input::{Input, ORDERS};
 use table::Table;
 
-const ROUNDS: usize = 21;
-/// A bare start is short and easily disturbed.
-const START_ROUNDS: usize = 100;
-const TIMED_BYTES: usize = 12_000_000;
+/// Short runs, and many: where other work disturbs most of them, some are left alone.
+const ROUNDS: usize = 101;
+const TIMED_BYTES: usize = 4_000_000;
+const SESSION_ROUNDS: usize = 7;
 const COUNTED_BYTES: usize = 100_000;
 /// The columns that get a ratio to `plain`.
 const COMPARED: [&str; 3] = ["bench", "bench_shared", "reference"];
@@ -64,7 +64,7 @@ fn measure(others: &Path, ours: &Path) -> Result<(), Failure> {
 
     println!("{}", machine());
     println!("Times: wall clock, whole processes, spawn to exit, fed from a file; best of {ROUNDS} rounds,");
-    println!("of {START_ROUNDS} for the starts, all programs in turn within each round.");
+    println!("of {SESSION_ROUNDS} for the session, all programs in turn within each round.");
     println!();
     bus(&on_bus)?;
     println!();
@@ -173,14 +173,14 @@ fn starts_and_session(benches: &[PathBuf], simulates: &[PathBuf]) -> Result<(), 
     };
     let nothing = Input::of(&[])?;
     let start = |what, programs| {
-        row(what, programs, &nothing, START_ROUNDS, |seconds| {
+        row(what, programs, &nothing, ROUNDS, |seconds| {
             format!("{:.2}", seconds * 1000.0)
         })
     };
     start("start of bench, empty input, ms", benches)?;
     start("start of simulate, empty input, ms", simulates)?;
     let orders = "orders through a session of simulate, orders/s";
-    row(orders, simulates, &input::session()?, ROUNDS, |seconds| {
+    row(orders, simulates, &input::session()?, SESSION_ROUNDS, |seconds| {
         format!("{:.0}", ORDERS as f64 / seconds)
     })
 }
