@@ -1,6 +1,7 @@
 // The cab box: it holds the controller, and takes each order of the open session once and in its turn.
 mod obey;
 
+use base::Refusal;
 use controller::Controller;
 use frame::Change;
 use frame::Frame;
@@ -10,11 +11,10 @@ use frame::SessionId;
 use frame::Verdict;
 use link::FRAME_LIMIT;
 use obey::obey;
-use packet::Refusal;
 use session::Cab;
 ghost use mathlib.Core.Path.{_≡_};
 ghost use lib.ListN.{length};
-ghost use Rattle.packet.specs.Answer.{number};
+ghost use Rattle.base.specs.Refusal.{number};
 ghost use Prim.Native.Nat.{_≤_};
 ghost use Rattle.frame.specs.View.{asked, meaning, refusal-of};
 ghost use Rattle.link.specs.View.{frame-limit};

@@ -1,7 +1,7 @@
 -- The byte exchange, one definition a case: document 01, "Bytes on the bus".
 use Prim.Native.Nat.{ℕ, _+_, _-_, _%_}
 use mathlib.Core.Bool.{Bool, true, false, cond}
-use mathlib.Core.List.{[], _∷_}
+use mathlib.Core.List.{List, [], _∷_}
 use lib.ListN.{getD, set, take, replicate}
 use lib.Dec.{eqb, leb, ltb}
 use Rattle.controller.specs.declared.bus.Phase.{Phase}
@@ -15,6 +15,7 @@ use Rattle.settings.specs.declared.settings.Settings.{Settings}
 use Rattle.settings.specs.declared.settings.Flag.{Flag}
 use Rattle.settings.specs.declared.settings.Flag.the-variants.{Incomplete, EscapeSeen, BytesIgnored, WrongChecksum}
 use Rattle.settings.specs.Settings as settings-spec
+use Rattle.packet.specs.Packet.{has-escape}
 use Rattle.registers.specs.Commands.{perform, outgoing}
 
 abbrev pub is-idle : Phase → Bool
@@ -127,3 +128,13 @@ out c = cond (ltb (c .reply .sent) (c .reply .len)) (getD (c .reply .bytes) (c .
 
 abbrev pub exchange : Controller → ℕ → Exchanged
 exchange c byte = record { controller = after c byte; out = out c }
+
+-- ---- what the writer's packet leaves in the status bits, apart from its command
+
+-- the settings once a start has arrived: "incomplete" if a packet was open
+abbrev pub opening : Controller → Settings
+opening c = cond (is-idle (c .phase)) (c .settings) (settings-spec.flagged (c .settings) Incomplete)
+
+-- "escape seen" where the bytes hold an escape
+abbrev pub noted : Settings → List ℕ → Settings
+noted σ bytes = cond (has-escape bytes) (settings-spec.flagged σ EscapeSeen) σ

@@ -1,13 +1,5 @@
-pub mod Agreement
 pub mod AsWritten
 pub mod Bus
 pub mod BusState
-pub mod CommandTable
-pub mod Effect
 pub mod Examples
-pub mod Keeps
-pub mod NothingBefore
-pub mod ReadsBack
 pub mod Run
-pub mod Settles
-pub mod StatusBits

@@ -3,8 +3,8 @@ use Prim.Native.Nat.{ℕ}
 use mathlib.Core.List.{List}
 use mathlib.Core.Option.{Option, none, some}
 use lib.ListN.{length, take, replicate}
-use Rattle.packet.specs.Answer.{number}
-use Rattle.packet.specs.Writer.{overwritten}
+use Rattle.base.specs.Refusal.{number}
+use Rattle.base.specs.Lent.{overwritten}
 use Rattle.settings.specs.Settings.{fresh}
 use Rattle.settings.specs.declared.settings.Settings.{Settings}
 use Rattle.frame.specs.declared.frame.Ask.{Ask}

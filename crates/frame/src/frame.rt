@@ -1,5 +1,5 @@
 // The frames by value.
-use packet::store;
+use base::store;
 use settings::Settings;
 ghost use mathlib.Core.Path.{_≡_};
 ghost use Prim.Native.Nat.{_≤_};

@@ -1,5 +1,5 @@
 // What a call that takes a frame or an order says of it.
-use packet::Refusal;
+use base::Refusal;
 
 pub enum Verdict {
     Accepted,

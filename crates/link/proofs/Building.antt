@@ -6,15 +6,15 @@ use mathlib.Core.Bool.{true}
 use mathlib.Core.List.{List, [], _++_}
 use lib.ListN.{length, drop, replicate, length-append}
 use lib.Seq.{take-append-seam}
-use Rattle.packet.proofs.Loops.{sets-append, sets-front}
+use Rattle.base.proofs.Lists.{sets-append, sets-front}
 use Rattle.link.specs.declared.encoded.Encoded.{Encoded}
 use Rattle.frame.specs.declared.frame.Frame.{Frame as FrameStruct}
 use Rattle.frame.specs.Frame.{data-limit, Frame}
-use Rattle.link.specs.Frame.{encode}
+use Rattle.link.specs.Encoding.{encode}
 use Rattle.link.specs.Steps.{pushed, short}
 use Rattle.frame.specs.View.{meaning}
 use Rattle.link.specs.View.{frame-limit, encoding-of, bytes-of, encoded}
-use Rattle.link.specs.FrameLaws.{encode-length, meaning-length}
+use Rattle.link.proofs.FrameLaws.{encode-length, meaning-length}
 
 pub pushed-append : (e : Encoded) (xs ys : List ℕ) → pushed (pushed e xs) ys ≡ pushed e (xs ++ ys)
 unfolding pushed
@@ -36,4 +36,4 @@ bytes-of-encoded l = take-append-seam l (drop (length l) (replicate frame-limit 
 -- encode's three clauses from the first
 pub whole-encoded : (f : FrameStruct) (r : Encoded) → length (f .change .body) ≡ data-limit → r ≡ encoded (encoding-of (meaning f)) →
     (r ≡ encoded (encoding-of (meaning f))) × ((bytes-of r ≡ encoding-of (meaning f)) × (r .len ≤ frame-limit))
-whole-encoded f r long whole = (whole, (rw whole (bytes-of-encoded (encoding-of (meaning f))), rw whole (meaning-length f long)))
+whole-encoded f r le32 whole = (whole, (rw whole (bytes-of-encoded (encoding-of (meaning f))), rw whole (meaning-length f le32)))

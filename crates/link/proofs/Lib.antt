@@ -1,2 +1,4 @@
 pub mod Building
+pub mod FrameLaws
+pub mod FrameTheorems
 pub mod Reading

@@ -8,11 +8,11 @@ use mathlib.Core.Option.{Option, none, some}
 use lib.ListN.{length, getD, drop, drop-of-length-le}
 use lib.Dec.{eqb}
 use borrow.Author.Tests.{eq-eqb, ne-eqb}
-use Rattle.packet.proofs.Loops.{drop-more}
+use Rattle.base.proofs.Lists.{drop-more}
 use Rattle.frame.specs.declared.frame.Frame.{Frame as FrameStruct}
 use Rattle.frame.specs.Frame.{Frame, opening, welcome, order, ack, refuse}
-use Rattle.link.specs.Frame.{same, short-enough, accepted, promised, decode}
-use Rattle.frame.specs.Laws.{meaning-frame-of}
+use Rattle.link.specs.Encoding.{same, short-enough, accepted, promised, decode}
+use Rattle.frame.proofs.Laws.{meaning-frame-of}
 use Rattle.link.specs.Steps.{held, allowed-of}
 use Rattle.frame.specs.View.{meaning, frame-of}
 use Rattle.link.specs.View.{encoding-of}

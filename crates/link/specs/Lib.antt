@@ -1,5 +1,3 @@
-pub mod Frame
-pub mod FrameLaws
-pub mod FrameTheorems
+pub mod Encoding
 pub mod Steps
 pub mod View

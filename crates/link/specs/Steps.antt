@@ -7,7 +7,7 @@ use lib.ListN.{length}
 use lib.Seq.{sets}
 use Rattle.link.specs.declared.encoded.Encoded.{Encoded}
 use Rattle.frame.specs.Frame.{Frame, opening, welcome, order, ack, refuse}
-use Rattle.link.specs.Frame.{short-enough, allowed}
+use Rattle.link.specs.Encoding.{short-enough, allowed}
 
 -- with bytes behind those that it has
 unfoldable pub pushed : Encoded → List ℕ → Encoded

@@ -5,10 +5,10 @@ use mathlib.Core.List.{List, []}
 use mathlib.Core.Option.{Option, none, some}
 use lib.ListN.{length, take, replicate}
 use lib.Dec.{ltb}
-use Rattle.packet.specs.Writer.{overwritten}
+use Rattle.base.specs.Lent.{overwritten}
 use Rattle.link.specs.declared.encoded.Encoded.{Encoded}
 use Rattle.frame.specs.Frame.{Frame}
-use Rattle.link.specs.Frame.{encode}
+use Rattle.link.specs.Encoding.{encode}
 
 -- the code's FRAME_LIMIT: a clause cannot name a constant of the code
 abbrev pub frame-limit : ℕ

@@ -8,16 +8,16 @@ use frame::Kind;
 use frame::OrderNumber;
 use frame::SessionId;
 use number::byte;
-use number::long;
+use number::le16;
+use number::le32;
 use number::rest;
-use number::word;
 use registers::from_block;
 use settings::Settings;
 ghost use mathlib.Core.Path.{_≡_};
 ghost use Rattle.registers.specs.Block.{in-range};
 ghost use Rattle.frame.specs.View.{frame-of, meaning};
 ghost use Rattle.frame.specs.Frame as frames;
-ghost use Rattle.link.specs.Frame as spec;
+ghost use Rattle.link.specs.Encoding as spec;
 ghost use Rattle.link.specs.Steps as steps;
 ghost use Rattle.link.specs.View as view;
 
@@ -50,10 +50,10 @@ fn promised_order(session: SessionId, number: OrderNumber, bytes: &[u8]) -> Fram
         return Frame::order(session, number, Change::command(byte(bytes, 3), d));
     }
     if first == tag::RAISE {
-        return Frame::order(session, number, Change::raise(word(rest(bytes, 3))));
+        return Frame::order(session, number, Change::raise(le16(rest(bytes, 3))));
     }
     if first == tag::LOWER {
-        return Frame::order(session, number, Change::lower(word(rest(bytes, 3))));
+        return Frame::order(session, number, Change::lower(le16(rest(bytes, 3))));
     }
     Frame::malformed()
 }
@@ -63,8 +63,8 @@ fn promised(bytes: &[u8]) -> Frame
     ensures { λ r. ⌜ r ≡ frame-of (steps.held (spec.promised (now (bytes .entry)))) ⌝ }
 {
     let first = byte(bytes, 0);
-    let session = SessionId(long(rest(bytes, 3)));
-    let number = OrderNumber(word(rest(bytes, 7)));
+    let session = SessionId(le32(rest(bytes, 3)));
+    let number = OrderNumber(le16(rest(bytes, 7)));
     if first == tag::OPENING {
         return Frame::opening(session);
     }

@@ -1,17 +1,17 @@
 // A frame as bytes, and how it is built up.
+use base::Refusal;
+use base::store;
 use frame::Verdict;
 use number::high;
 use number::low;
-use packet::Refusal;
-use packet::store;
 ghost use mathlib.Core.Path.{_≡_};
 ghost use mathlib.Core.List.{[], _∷_};
 ghost use Prim.Native.Nat.{_+_, _≤_};
 ghost use lib.ListN.{length};
-ghost use Rattle.number.specs.Number.{word-bytes};
+ghost use Rattle.number.specs.Number.{le16-bytes};
 ghost use Rattle.frame.specs.View.{refusal-of};
-ghost use Rattle.packet.specs.Writer.{overwritten};
-ghost use Rattle.link.specs.Frame.{field as field-of};
+ghost use Rattle.base.specs.Lent.{overwritten};
+ghost use Rattle.link.specs.Encoding.{field as field-of};
 ghost use Rattle.link.specs.Steps as steps;
 ghost use Rattle.link.specs.View as view;
 
@@ -50,7 +50,7 @@ impl Encoded {
     // A field's tag and the length of its contents.
     pub(crate) fn header(self, tag: u8, len: u16) -> Encoded
         requires { ⌜ self .len + 3 ≤ view.frame-limit ⌝ }
-        ensures { λ r. ⌜ r ≡ steps.pushed self (tag ∷ word-bytes len) ⌝ }
+        ensures { λ r. ⌜ r ≡ steps.pushed self (tag ∷ le16-bytes len) ⌝ }
     {
         let b = [tag, low(len), high(len)];
         self.push(&b)

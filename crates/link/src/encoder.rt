@@ -18,16 +18,16 @@ ghost use mathlib.Core.Path.{_≡_};
 ghost use mathlib.Core.List.{_++_};
 ghost use Prim.Native.Nat.{_≤_};
 ghost use lib.ListN.{length};
-ghost use Rattle.number.specs.Number.{word-bytes, long-bytes as long-bytes-of};
-ghost use Rattle.packet.specs.Writer.{overwritten};
+ghost use Rattle.number.specs.Number.{le16-bytes, le32-bytes as le32-bytes-of};
+ghost use Rattle.base.specs.Lent.{overwritten};
 ghost use Rattle.frame.specs.View.{asked, meaning, refusal-of};
 ghost use Rattle.frame.specs.Frame as frames;
-ghost use Rattle.link.specs.Frame as spec;
+ghost use Rattle.link.specs.Encoding as spec;
 ghost use Rattle.link.specs.Steps as steps;
 ghost use Rattle.link.specs.View as view;
 
-fn long_bytes(x: u32) -> [u8; 4]
-    ensures { λ r. ⌜ r ≡ long-bytes-of x ⌝ }
+fn le32_bytes(x: u32) -> [u8; 4]
+    ensures { λ r. ⌜ r ≡ le32-bytes-of x ⌝ }
 {
     [
         (x % 256) as u8,
@@ -39,9 +39,9 @@ fn long_bytes(x: u32) -> [u8; 4]
 
 // A session and an order's number or count.
 fn numbered(session: SessionId, number: OrderNumber) -> [u8; 6]
-    ensures { λ r. ⌜ r ≡ long-bytes-of (session .0) ++ word-bytes (number .0) ⌝ }
+    ensures { λ r. ⌜ r ≡ le32-bytes-of (session .0) ++ le16-bytes (number .0) ⌝ }
 {
-    let s = long_bytes(session.0);
+    let s = le32_bytes(session.0);
     let n = number.0;
     [s[0], s[1], s[2], s[3], low(n), high(n)]
 }
@@ -49,14 +49,14 @@ fn numbered(session: SessionId, number: OrderNumber) -> [u8; 6]
 fn opening(session: SessionId) -> Encoded
     ensures { λ r. ⌜ r ≡ view.encoded (spec.encode (frames.opening (session .0))) ⌝ }
 {
-    let s = long_bytes(session.0);
+    let s = le32_bytes(session.0);
     Encoded::empty().field(tag::OPENING, &s)
 }
 
 fn welcome(session: SessionId, settings: Settings) -> Encoded
     ensures { λ r. ⌜ r ≡ view.encoded (spec.encode (frames.welcome (session .0) settings)) ⌝ }
 {
-    let s = long_bytes(session.0);
+    let s = le32_bytes(session.0);
     let b = block(settings);
     Encoded::empty()
         .field(tag::WELCOME, &s)
@@ -75,7 +75,7 @@ fn command_field(e: Encoded, command: u8, bytes: &[u8]) -> Encoded
 
 fn step_field(e: Encoded, tag: u8, step: u16) -> Encoded
     requires { ⌜ e .len ≤ 9 ⌝ }
-    ensures { λ r. ⌜ r ≡ steps.pushed e (spec.field tag (word-bytes step)) ⌝ }
+    ensures { λ r. ⌜ r ≡ steps.pushed e (spec.field tag (le16-bytes step)) ⌝ }
 {
     let b = [low(step), high(step)];
     e.field(tag, &b)
@@ -117,7 +117,7 @@ fn ack(session: SessionId, count: OrderNumber) -> Encoded
 fn refuse(session: SessionId, refusal: u8) -> Encoded
     ensures { λ r. ⌜ r ≡ view.encoded (spec.encode (frames.refuse (session .0) refusal)) ⌝ }
 {
-    let s = long_bytes(session.0);
+    let s = le32_bytes(session.0);
     let b = [s[0], s[1], s[2], s[3], refusal];
     Encoded::empty().field(tag::REFUSE, &b)
 }

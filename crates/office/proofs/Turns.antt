@@ -7,9 +7,9 @@ use Prim.Native.Nat.{ℕ, zero, suc, _+_, _-_, _<_, _≤_}
 use native.Mathlib.Nat.{not-suc-le-zero, le-of-suc-le-suc}
 use lib.ListN.{length, getD}
 use borrow.Author.Tests.{le-ltb, lt-leb, ne-eqb}
-use Rattle.packet.specs.Answer.{number}
-use Rattle.packet.specs.declared.Refusal.{Refusal}
-use Rattle.packet.specs.declared.Refusal.the-variants.{MalformedFrame}
+use Rattle.base.specs.Refusal.{number}
+use Rattle.base.specs.declared.refusal.Refusal.{Refusal}
+use Rattle.base.specs.declared.refusal.Refusal.the-variants.{MalformedFrame}
 use Rattle.frame.specs.Frame.{Change, Frame, order}
 use Rattle.link.specs.View.{frame-limit}
 use Rattle.session.specs.declared.Office.{Office}

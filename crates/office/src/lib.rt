@@ -1,4 +1,5 @@
 // The office end: it issues orders for one session at a time, and knows what the box has taken.
+use base::Refusal;
 use frame::Ask;
 use frame::Change;
 use frame::DATA_LIMIT;
@@ -10,7 +11,6 @@ use frame::Verdict;
 use link::FRAME_LIMIT;
 use link::decode;
 use link::send;
-use packet::Refusal;
 use session::Office;
 use session::Order;
 use session::Progress;

@@ -3,12 +3,12 @@ use Prim.Native.Nat.{ℕ, _+_, _-_, _≤_, min}
 use mathlib.Core.Path.{_≡_}
 use mathlib.Core.List.{List, _++_}
 use lib.ListN.{length, take, replicate}
-use Rattle.number.specs.Number.{word-bytes}
+use Rattle.number.specs.Number.{le16-bytes}
 use Rattle.packet.specs.Packet.{packet-limit, packet-of}
-use Rattle.packet.specs.Writer.{overwritten}
+use Rattle.base.specs.Lent.{overwritten}
 use Rattle.settings.specs.declared.settings.Settings.{Settings}
 use Rattle.registers.specs.Commands.{perform}
-use Rattle.controller.specs.ReadsBack.{noted}
+use Rattle.controller.specs.Bus.{noted}
 use Rattle.frame.specs.Frame.{data-limit, Change, command, raise, lower}
 use Rattle.order.specs.declared.change.Packet.{Packet}
 use Rattle.order.specs.declared.change.Resolved.{Resolved}
@@ -21,8 +21,8 @@ command-byte (lower n) = 0x00
 
 abbrev pub command-data : ℕ → Change → List ℕ
 command-data level (command k d) = d
-command-data level (raise n) = word-bytes (min (level + n) 65535)
-command-data level (lower n) = word-bytes (level - n)
+command-data level (raise n) = le16-bytes (min (level + n) 65535)
+command-data level (lower n) = le16-bytes (level - n)
 
 -- the packet that the box sends for a change, at this backlight level
 abbrev pub order-packet : ℕ → Change → List ℕ
@@ -36,7 +36,7 @@ apply σ change =
 -- ---- the code's structs
 
 abbrev pub level-write : ℕ → Resolved
-level-write level = record { command = 0x00; count = 2; body = word-bytes level ++ replicate 14 0 }
+level-write level = record { command = 0x00; count = 2; body = le16-bytes level ++ replicate 14 0 }
 
 abbrev pub resolved-data : Resolved → List ℕ
 resolved-data r = take (r .count) (r .body)

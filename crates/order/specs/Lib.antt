@@ -1,3 +1,1 @@
 pub mod Apply
-pub mod Keeps
-pub mod Laws

@@ -12,7 +12,7 @@ ghost use mathlib.Core.Path.{_≡_};
 ghost use Prim.Native.Nat.{_+_, _-_, _≤_, min};
 ghost use lib.ListN.{length};
 ghost use Rattle.packet.specs.Packet.{packet-limit, packet-of};
-ghost use Rattle.packet.specs.Writer.{overwritten};
+ghost use Rattle.base.specs.Lent.{overwritten};
 ghost use Rattle.frame.specs.View.{asked};
 ghost use Rattle.order.specs.Apply as spec;
 

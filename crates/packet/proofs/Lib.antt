@@ -1,3 +1,6 @@
 pub mod Loops
+pub mod PacketLaws
+pub mod PacketTheorems
 pub mod Replies
-pub mod Tests
+pub mod ReplyTheorems
+pub mod WriterLaws

@@ -7,10 +7,10 @@ use lib.ListN.{length, getD, take, drop, length-drop, drop-of-length-le}
 use lib.Seq.{getD-drop}
 use lib.Dec.{leb, eqb}
 use Rattle.packet.specs.declared.writer.Access.{Access}
-use Rattle.packet.specs.Answer.{refused, accepted}
+use Rattle.base.specs.Result.{refused, accepted}
 use Rattle.packet.specs.Packet.{checksum}
 use Rattle.packet.specs.Reply.{reserved, payload-at, after-response, reply-at}
-use Rattle.packet.proofs.Loops.{drop-more}
+use Rattle.base.proofs.Lists.{drop-more}
 
 module _ (s : List ℕ) (at : ℕ) where
   pub payload-missing : length s ≤ at → payload-at at (drop at s) ≡ refused 12

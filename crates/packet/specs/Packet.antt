@@ -1,6 +1,6 @@
 -- What a packet is: document 01, "Bytes on the bus".
 use Prim.Native.Nat.{ℕ, _+_, _*_, _%_}
-use mathlib.Core.Bool.{Bool, true, false, cond}
+use mathlib.Core.Bool.{Bool, true, false, cond, _||_}
 use mathlib.Core.List.{List, [], _∷_, _++_}
 use lib.ListN.{length}
 use lib.Dec.{eqb}
@@ -53,3 +53,8 @@ unescape-from true (b ∷ bs) = cond (eqb b 0x00) 0xA5 b ∷ unescape-from false
 
 abbrev pub unescape : List ℕ → List ℕ
 unescape bs = unescape-from false bs
+
+-- whether bytes hold an escape
+unfoldable pub has-escape : List ℕ → Bool
+has-escape [] = false
+has-escape (b ∷ bs) = eqb b 0x5A || has-escape bs

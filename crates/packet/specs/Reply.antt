@@ -4,7 +4,8 @@ use mathlib.Core.Bool.{Bool, cond, _||_, _&&_}
 use mathlib.Core.List.{List, [], _∷_, _++_}
 use lib.ListN.{length, getD, take, drop}
 use lib.Dec.{leb, eqb}
-use Rattle.packet.specs.Answer.{Answer, refused, accepted, number}
+use Rattle.base.specs.Refusal.{number}
+use Rattle.base.specs.Result.{Result, refused, accepted}
 use Rattle.packet.specs.Packet.{checksum}
 use Rattle.packet.specs.declared.writer.Access.{Access}
 use Rattle.packet.specs.declared.writer.Access.the-variants.{Write, Read}
@@ -12,7 +13,7 @@ use Rattle.packet.specs.declared.reply.Reply.{Reply}
 use Rattle.packet.specs.declared.reply.ReplyRead.{ReplyRead}
 use Rattle.packet.specs.declared.reply.ReplyRead.the-variants.{Whole, Refused}
 
-abbrev pub answer : ReplyRead → Answer Reply
+abbrev pub answer : ReplyRead → Result Reply
 answer (Refused r) = refused (number r)
 answer (Whole r) = accepted r
 
@@ -30,7 +31,7 @@ abbrev pub response-only : ℕ → ℕ → Reply
 response-only response at = record { response = response; start = at; count = 0; end = at }
 
 -- what follows response 01 where a read was asked: a length m at offset `at`, m data bytes, and the sum of these and the response
-unfoldable pub payload-at : ℕ → List ℕ → Answer Reply
+unfoldable pub payload-at : ℕ → List ℕ → Result Reply
 payload-at at [] = refused 12
 payload-at at (m ∷ bytes) =
     cond (leb (length bytes) m) (refused 12)
@@ -43,15 +44,15 @@ unfoldable pub success : List ℕ → List ℕ
 success bytes = 0x01 ∷ length bytes ∷ bytes ++ checksum (0x01 ∷ length bytes ∷ bytes) ∷ []
 
 -- only a read's success has more than its response
-unfoldable pub after-response : Access → ℕ → ℕ → List ℕ → Answer Reply
+unfoldable pub after-response : Access → ℕ → ℕ → List ℕ → Result Reply
 after-response Write response at bytes = accepted (response-only response at)
 after-response Read response at bytes = cond (eqb response 0x01) (payload-at at bytes) (accepted (response-only response at))
 
 -- the reply at offset `at`, where `bytes` begin
-unfoldable pub reply-at : Access → ℕ → List ℕ → Answer Reply
+unfoldable pub reply-at : Access → ℕ → List ℕ → Result Reply
 reply-at asked at [] = refused 12
 reply-at asked at (response ∷ bytes) = cond (reserved response) (refused 11) (after-response asked response (at + 1) bytes)
 
 -- the reply after the leading dummies; whatever follows it does not matter
-abbrev pub reply : Access → List ℕ → Answer Reply
+abbrev pub reply : Access → List ℕ → Result Reply
 reply asked bytes = reply-at asked (dummies bytes) (drop (dummies bytes) bytes)

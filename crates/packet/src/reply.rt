@@ -1,11 +1,11 @@
 // The reply reader.
-use crate::Refusal;
 use crate::sum::checksum;
 use crate::writer::Access;
+use base::Refusal;
 ghost use mathlib.Core.Path.{_≡_};
 ghost use Prim.Native.Nat.{_≤_};
 ghost use lib.ListN.{length, drop};
-ghost use Rattle.packet.specs.Answer.{accepted};
+ghost use Rattle.base.specs.Result.{accepted};
 ghost use Rattle.packet.specs.Reply.{answer, reply, response-only, dummies as dummies-of, reserved as reserved-of, after-response, payload-at};
 
 // A reply found in bytes: its data are bytes[start..start + count], and it ends before bytes[end].

@@ -1,12 +1,13 @@
 // The packet writer.
-use crate::Refusal;
 use crate::sum::checksum;
+use base::Refusal;
 ghost use mathlib.Core.Path.{_≡_};
 ghost use Prim.Native.Nat.{_+_, _≤_};
 ghost use lib.ListN.{length};
 ghost use lib.Seq.{sets};
 ghost use Rattle.packet.specs.Packet.{command-byte, escape-byte, escape, fields};
-ghost use Rattle.packet.specs.Writer.{written, answer, length-of, bytes-of, overwritten};
+ghost use Rattle.base.specs.Lent.{overwritten};
+ghost use Rattle.packet.specs.Writer.{written, answer, length-of, bytes-of};
 
 // Whether a command writes a register or reads it: document 01's "way".
 pub enum Access {

@@ -5,14 +5,14 @@ use mathlib.Core.List.{List, [], _∷_, _++_}
 use lib.ListN.{getD, drop}
 use lib.IntN.{natAbs}
 use lib.Dec.{leb}
-use Rattle.number.specs.Number.{word, word-bytes}
+use Rattle.number.specs.Number.{le16, le16-bytes}
 use Rattle.settings.specs.declared.settings.Settings.{Settings}
 use Rattle.registers.specs.Commands.{heater-bytes, bezel-bytes, area-bytes, status-bytes, heater-from, bezel-from, area-from, status-from}
 
 -- the settings in order; park is 0 or 1 here
 unfoldable pub block : Settings → List ℕ
 block σ =
-    word-bytes (σ .backlight)
+    le16-bytes (σ .backlight)
     ++ (σ .master ∷ σ .park ∷ σ .splash ∷ σ .strength ∷ [])
     ++ heater-bytes (σ .heater)
     ++ bezel-bytes (σ .bezel)
@@ -22,7 +22,7 @@ block σ =
 -- a block's first nine bytes
 abbrev pub register-bytes : Settings → List ℕ
 register-bytes σ =
-    word-bytes (σ .backlight)
+    le16-bytes (σ .backlight)
     ++ (σ .master ∷ σ .park ∷ σ .splash ∷ σ .strength ∷ [])
     ++ heater-bytes (σ .heater)
 
@@ -30,7 +30,7 @@ register-bytes σ =
 unfoldable pub from-block : List ℕ → Settings
 from-block d =
     record {
-      backlight = word d;
+      backlight = le16 d;
       master = getD d 2 0;
       park = getD d 3 0;
       splash = getD d 4 0;

@@ -5,12 +5,12 @@ use mathlib.Core.Bool.{Bool, true, false, cond}
 use mathlib.Core.List.{List, [], _∷_, _++_}
 use lib.ListN.{length, getD, drop, replicate}
 use lib.Dec.{eqb, leb}
-use Rattle.number.specs.Number.{word, word-bytes}
+use Rattle.number.specs.Number.{le16, le16-bytes}
 use Rattle.number.specs.Signed.{offset, magnitude, sign}
 use Rattle.packet.specs.declared.writer.Access.{Access}
 use Rattle.packet.specs.declared.writer.Access.the-variants.{Write, Read}
 use Rattle.packet.specs.Reply.{success}
-use Rattle.packet.specs.Writer.{overwritten}
+use Rattle.base.specs.Lent.{overwritten}
 use Rattle.registers.specs.declared.command.Register.{Register}
 use Rattle.registers.specs.declared.command.Register.the-variants.{
   Backlight,
@@ -104,10 +104,10 @@ abbrev pub parked : ℕ → ℕ
 parked park = cond (eqb park 0) 0 2
 
 abbrev pub heater-bytes : HeaterDrive → List ℕ
-heater-bytes h = word-bytes (h .khz) ++ h .duty ∷ []
+heater-bytes h = le16-bytes (h .khz) ++ h .duty ∷ []
 
 abbrev pub offset-bytes : ℤ → List ℕ
-offset-bytes z = word-bytes (magnitude z) ++ sign z ∷ []
+offset-bytes z = le16-bytes (magnitude z) ++ sign z ∷ []
 
 abbrev pub bezel-bytes : Offsets → List ℕ
 bezel-bytes o = offset-bytes (o .horizontal) ++ offset-bytes (o .vertical)
@@ -116,10 +116,10 @@ abbrev pub status-bytes : StatusBytes → List ℕ
 status-bytes s = s .first ∷ s .second ∷ s .third ∷ s .fourth ∷ []
 
 abbrev pub area-bytes : Area → List ℕ
-area-bytes a = word-bytes (a .x0) ++ word-bytes (a .y0) ++ word-bytes (a .x1) ++ word-bytes (a .y1)
+area-bytes a = le16-bytes (a .x0) ++ le16-bytes (a .y0) ++ le16-bytes (a .x1) ++ le16-bytes (a .y1)
 
 abbrev pub read : Settings → Register → List ℕ
-read σ Backlight = word-bytes (σ .backlight)
+read σ Backlight = le16-bytes (σ .backlight)
 read σ Master = σ .master ∷ []
 read σ Park = parked (σ .park) ∷ []
 read σ Splash = σ .splash ∷ []
@@ -132,16 +132,16 @@ read σ Pixels = area-bytes (σ .pixels)
 -- ---- what a write does
 
 abbrev pub heater-from : List ℕ → HeaterDrive
-heater-from d = record { khz = word d; duty = getD d 2 0 }
+heater-from d = record { khz = le16 d; duty = getD d 2 0 }
 
 abbrev pub offset-from : List ℕ → ℤ
-offset-from d = offset (word d) (getD d 2 0)
+offset-from d = offset (le16 d) (getD d 2 0)
 
 abbrev pub bezel-from : List ℕ → Offsets
 bezel-from d = record { horizontal = offset-from d; vertical = offset-from (drop 3 d) }
 
 abbrev pub area-from : List ℕ → Area
-area-from d = record { x0 = word d; y0 = word (drop 2 d); x1 = word (drop 4 d); y1 = word (drop 6 d) }
+area-from d = record { x0 = le16 d; y0 = le16 (drop 2 d); x1 = le16 (drop 4 d); y1 = le16 (drop 6 d) }
 
 abbrev pub status-from : List ℕ → StatusBytes
 status-from d = record { first = getD d 0 0; second = getD d 1 0; third = getD d 2 0; fourth = getD d 3 0 }
@@ -161,7 +161,7 @@ settings-of b m p l d h o a t =
     }
 
 abbrev pub written : Settings → Register → List ℕ → Settings
-written σ Backlight d = settings-of (word d) (σ .master) (σ .park) (σ .splash) (σ .strength) (σ .heater) (σ .bezel) (σ .pixels) (σ .status)
+written σ Backlight d = settings-of (le16 d) (σ .master) (σ .park) (σ .splash) (σ .strength) (σ .heater) (σ .bezel) (σ .pixels) (σ .status)
 written σ Master d = settings-of (σ .backlight) (getD d 0 0) (σ .park) (σ .splash) (σ .strength) (σ .heater) (σ .bezel) (σ .pixels) (σ .status)
 written σ Park d = settings-of (σ .backlight) (σ .master) (getD d 0 0) (σ .splash) (σ .strength) (σ .heater) (σ .bezel) (σ .pixels) (σ .status)
 written σ Splash d = settings-of (σ .backlight) (σ .master) (σ .park) (getD d 0 0) (σ .strength) (σ .heater) (σ .bezel) (σ .pixels) (σ .status)

@@ -1,4 +1,2 @@
 pub mod Block
-pub mod BlockTheorems
-pub mod ByteLaws
 pub mod Commands

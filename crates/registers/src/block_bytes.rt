@@ -6,12 +6,12 @@ use crate::fields::bezel_from;
 use crate::fields::heater_from;
 use crate::fields::status_bytes;
 use crate::fields::status_from;
+use base::store;
 use number::byte;
 use number::high;
+use number::le16;
 use number::low;
 use number::rest;
-use number::word;
-use packet::store;
 use settings::Settings;
 ghost use mathlib.Core.Path.{_≡_};
 ghost use Rattle.registers.specs.Block as spec;
@@ -56,7 +56,7 @@ pub fn from_block(bytes: &[u8]) -> Settings
     ensures { λ r. ⌜ r ≡ spec.from-block (now (bytes .entry)) ⌝ }
 {
     Settings {
-        backlight: word(bytes),
+        backlight: le16(bytes),
         master: byte(bytes, 2),
         park: byte(bytes, 3),
         splash: byte(bytes, 4),

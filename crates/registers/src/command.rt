@@ -5,12 +5,12 @@ use crate::fields::bezel_bytes;
 use crate::fields::bezel_from;
 use crate::fields::heater_from;
 use crate::fields::status_bytes;
+use base::store;
 use number::byte;
 use number::high;
+use number::le16;
 use number::low;
-use number::word;
 use packet::Access;
-use packet::store;
 use settings::Area;
 use settings::Flag;
 use settings::HeaterDrive;
@@ -21,9 +21,9 @@ ghost use mathlib.Core.Path.{_≡_};
 ghost use mathlib.Core.List.{[], _∷_};
 ghost use Prim.Native.Nat.{_≤_};
 ghost use lib.ListN.{length, replicate};
-ghost use Rattle.number.specs.Number.{word-bytes};
+ghost use Rattle.number.specs.Number.{le16-bytes};
 ghost use Rattle.packet.specs.Reply.{success as success-of};
-ghost use Rattle.packet.specs.Writer.{overwritten};
+ghost use Rattle.base.specs.Lent.{overwritten};
 ghost use Rattle.registers.specs.Commands as spec;
 
 pub enum Register {
@@ -195,7 +195,7 @@ fn success(bytes: &[u8]) -> Outgoing
 }
 
 fn read_backlight(level: u16) -> Outgoing
-    ensures { λ r. ⌜ r ≡ spec.outgoing (success-of (word-bytes level)) ⌝ }
+    ensures { λ r. ⌜ r ≡ spec.outgoing (success-of (le16-bytes level)) ⌝ }
 {
     let b = [low(level), high(level)];
     success(&b)
@@ -267,7 +267,7 @@ fn written(settings: Settings, register: Register, bytes: &[u8]) -> Settings
     let mut s = settings;
     match register {
         Register::Backlight => {
-            s.backlight = word(bytes);
+            s.backlight = le16(bytes);
             s
         }
         Register::Master => {

@@ -1,12 +1,12 @@
 // Registers of more than one field, in bytes and back.
 use number::byte;
 use number::high;
+use number::le16;
 use number::low;
 use number::magnitude;
 use number::offset;
 use number::rest;
 use number::sign;
-use number::word;
 use settings::Area;
 use settings::HeaterDrive;
 use settings::Offsets;
@@ -54,7 +54,7 @@ pub(crate) fn heater_from(bytes: &[u8]) -> HeaterDrive
     ensures { λ r. ⌜ r ≡ spec.heater-from (now (bytes .entry)) ⌝ }
 {
     HeaterDrive {
-        khz: word(bytes),
+        khz: le16(bytes),
         duty: byte(bytes, 2),
     }
 }
@@ -62,7 +62,7 @@ pub(crate) fn heater_from(bytes: &[u8]) -> HeaterDrive
 fn offset_from(bytes: &[u8]) -> i32
     ensures { λ r. ⌜ r ≡ spec.offset-from (now (bytes .entry)) ⌝ }
 {
-    offset(word(bytes), byte(bytes, 2))
+    offset(le16(bytes), byte(bytes, 2))
 }
 
 pub(crate) fn bezel_from(bytes: &[u8]) -> Offsets
@@ -78,10 +78,10 @@ pub(crate) fn area_from(bytes: &[u8]) -> Area
     ensures { λ r. ⌜ r ≡ spec.area-from (now (bytes .entry)) ⌝ }
 {
     Area {
-        x0: word(bytes),
-        y0: word(rest(bytes, 2)),
-        x1: word(rest(bytes, 4)),
-        y1: word(rest(bytes, 6)),
+        x0: le16(bytes),
+        y0: le16(rest(bytes, 2)),
+        x1: le16(rest(bytes, 4)),
+        y1: le16(rest(bytes, 6)),
     }
 }
 

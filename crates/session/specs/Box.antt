@@ -9,7 +9,7 @@ use Rattle.controller.specs.declared.bus.Controller.{Controller}
 use Rattle.controller.specs.Bus as bus
 use Rattle.controller.specs.Run.{run}
 use Rattle.frame.specs.Frame.{Change, Frame, opening, welcome, order, ack, refuse}
-use Rattle.link.specs.Frame.{decode}
+use Rattle.link.specs.Encoding.{decode}
 use Rattle.link.specs.View.{frame-limit}
 use Rattle.order.specs.Apply.{order-packet}
 use Rattle.session.specs.declared.Cab.{Cab}

@@ -10,7 +10,7 @@ use Rattle.settings.specs.declared.settings.Settings.{Settings}
 use Rattle.settings.specs.Settings.{fresh}
 use Rattle.registers.specs.Block.{block}
 use Rattle.frame.specs.Frame.{data-limit, Change, command, raise, lower, Frame, opening, welcome, order, ack, refuse}
-use Rattle.link.specs.Frame.{encode, decode}
+use Rattle.link.specs.Encoding.{encode, decode}
 use Rattle.link.specs.View.{frame-limit}
 use Rattle.order.specs.Apply.{apply}
 use Rattle.session.specs.declared.Cab.{Cab}

@@ -1,11 +1,4 @@
-pub mod Alike
 pub mod Box
-pub mod BoxAlike
 pub mod Demand3
 pub mod Office
-pub mod OfficeAlike
-pub mod Refusals
-pub mod Safety
-pub mod Theorem
-pub mod Tools
 pub mod Turn

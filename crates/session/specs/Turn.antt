@@ -4,7 +4,7 @@ use mathlib.Core.Path.{_≡_}
 use mathlib.Core.List.{List}
 use mathlib.Core.Option.{Option, none, some}
 use lib.ListN.{length}
-use Rattle.packet.specs.Writer.{overwritten}
+use Rattle.base.specs.Lent.{overwritten}
 use Rattle.frame.specs.Frame.{Frame, refuse}
 use Rattle.link.specs.View.{encoding-of}
 

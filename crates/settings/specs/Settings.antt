@@ -1,7 +1,6 @@
 -- The fresh settings, and the status bits: document 01, "Status bits".
 use Prim.Native.Nat.{ℕ, _+_, _-_, _/_, _%_}
 use mathlib.Core.Bool.{cond}
-use mathlib.Core.Path.{_≡_, refl}
 use lib.IntN.{pos}
 use lib.Dec.{eqb, leb}
 use Rattle.settings.specs.declared.settings.Settings.{Settings}
@@ -64,11 +63,6 @@ no-flags = record { first = 0; second = 0; third = 0; fourth = 0 }
 -- the settings but for their status bits
 abbrev pub cleared : Settings → Settings
 cleared σ = with-status σ no-flags
-
--- a status bit changes no other register
-pub cleared-flagged : (σ : Settings) (f : Flag) → cleared (flagged σ f) ≡ cleared σ
-unfolding flagged
-cleared-flagged σ f = refl
 
 -- master on, all else 0
 abbrev pub fresh : Settings

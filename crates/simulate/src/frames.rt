@@ -20,8 +20,8 @@ pub fn keep(slots: &mut [u8], before: u64, frame: &[u8]) {
     }
     let at = (before % KEPT) as usize * SLOT;
     let len = [frame.len() as u8];
-    packet::store(&len, &mut *slots, at);
-    packet::store(frame, &mut *slots, at + 1);
+    base::store(&len, &mut *slots, at);
+    base::store(frame, &mut *slots, at + 1);
 }
 
 // Frame i of so many, counted from 1; no bytes where it is not kept.

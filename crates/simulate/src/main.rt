@@ -45,7 +45,7 @@ fn longer(line: Line, more: &[u8], buffer: &mut [u8]) -> Line {
             too_long: true,
         };
     }
-    packet::store(more, &mut *buffer, len);
+    base::store(more, &mut *buffer, len);
     Line {
         number: line.number,
         len: len + more.len(),

@@ -8,7 +8,7 @@ use native.Mathlib.Omega.{arith}
 use lib.ListN.{length, getD, take, drop}
 use lib.Dec.{eqb, leb·zero}
 use borrow.Author.Tests.{le-leb}
-use Rattle.packet.proofs.Loops.{drop-more}
+use Rattle.base.proofs.Lists.{drop-more}
 use Rattle.text.specs.Text.{part, before, find, spaces, digit, all-digits, digit-value, value-from}
 
 module _ (s : List ℕ) (i : ℕ) (h : i < length s) where

@@ -1,5 +1,5 @@
 use borrow.Author.Needs.{needs}
-use Rattle.packet.proofs.Tests.{tests}
+use Rattle.base.proofs.Tests.{tests}
 use Rattle.session.specs.Box.{opened-again}
 use Rattle.cabbox.proofs.opened_again.Statement.{statement}
 use Rattle.cabbox.proofs.opened_again.Tie as tie

@@ -1,5 +1,5 @@
 use borrow.Author.Needs.{needs}
-use Rattle.packet.proofs.Tests.{tests}
+use Rattle.base.proofs.Tests.{tests}
 use Rattle.session.specs.Box.{ordered-here}
 use Rattle.cabbox.proofs.ordered_here.Statement.{statement}
 use Rattle.cabbox.proofs.ordered_here.Tie as tie

@@ -1,5 +1,5 @@
 use borrow.Author.Needs.{needs}
-use Rattle.packet.proofs.Tests.{tests}
+use Rattle.base.proofs.Tests.{tests}
 use Rattle.session.specs.Box.{received}
 use Rattle.cabbox.proofs.received.Statement.{statement}
 use Rattle.cabbox.proofs.received.Tie as tie

@@ -1,5 +1,5 @@
 use borrow.Author.Needs.{needs}
-use Rattle.packet.proofs.Tests.{tests}
+use Rattle.base.proofs.Tests.{tests}
 use Rattle.cabbox.proofs.restart.Statement.{statement}
 use Rattle.cabbox.proofs.restart.Tie as tie
 

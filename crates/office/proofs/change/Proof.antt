@@ -5,7 +5,7 @@ use lib.Seq.{take-all}
 use borrow.Author.Tests.{ltb-false}
 use Rattle.frame.specs.declared.frame.Change.{Change as ChangeStruct}
 use Rattle.frame.specs.Frame.{Change}
-use Rattle.frame.specs.Laws.{asked-change-of}
+use Rattle.frame.proofs.Laws.{asked-change-of}
 use Rattle.frame.specs.View.{asked, asked-as, change-of}
 use borrow.Author.Needs.{needs}
 use Rattle.office.proofs.change.Statement.{statement}

@@ -1,5 +1,5 @@
 use mathlib.Core.Path.{ap, sym, _∙_}
-use Rattle.link.specs.Frame.{decode}
+use Rattle.link.specs.Encoding.{decode}
 use Rattle.session.specs.Office.{received, welcomed, acknowledged}
 use Rattle.office.proofs.Turns.{takes-frame, takes-none}
 use borrow.Author.Needs.{needs}

@@ -1,5 +1,5 @@
 use borrow.Author.Needs.{needs}
-use Rattle.packet.proofs.Tests.{tests}
+use Rattle.base.proofs.Tests.{tests}
 use Rattle.office.proofs.is_ending.Statement.{statement}
 use Rattle.office.proofs.is_ending.Tie as tie
 

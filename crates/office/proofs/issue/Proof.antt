@@ -2,7 +2,7 @@ use mathlib.Core.Path.{ap, sym, _∙_}
 use lib.ListN.{length}
 use Prim.Native.Nat.{_+_}
 use borrow.Author.Tests.{lt-ltb, le-ltb, le-leb, eq-eqb, ne-eqb, not-true, not-false}
-use Rattle.packet.specs.declared.Refusal.the-variants.{OutputTooShort, DataTooLong, WindowFull, OrderNumbersExhausted, OfficeNotOpen}
+use Rattle.base.specs.declared.refusal.Refusal.the-variants.{OutputTooShort, DataTooLong, WindowFull, OrderNumbersExhausted, OfficeNotOpen}
 use Rattle.frame.specs.Frame.{Change, order}
 use Rattle.frame.specs.View.{asked-as, change-of}
 use Rattle.session.specs.Office.{with-order, issue}

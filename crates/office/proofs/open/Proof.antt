@@ -1,7 +1,7 @@
 use mathlib.Core.Path.{ap}
 use lib.ListN.{length}
 use borrow.Author.Tests.{lt-ltb, le-ltb, eq-eqb, ne-eqb}
-use Rattle.packet.specs.declared.Refusal.the-variants.{OutputTooShort, WrongSession}
+use Rattle.base.specs.declared.refusal.Refusal.the-variants.{OutputTooShort, WrongSession}
 use Rattle.frame.specs.Frame.{opening}
 use Rattle.frame.specs.View.{meaning}
 use Rattle.session.specs.Office.{office-of, open-session, empty-window}

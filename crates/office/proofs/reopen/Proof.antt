@@ -1,7 +1,7 @@
 use mathlib.Core.Path.{refl, ap, sym, _∙_}
 use lib.ListN.{length}
 use borrow.Author.Tests.{lt-ltb, le-ltb, not-true, not-false}
-use Rattle.packet.specs.declared.Refusal.the-variants.{OutputTooShort, NothingToResend}
+use Rattle.base.specs.declared.refusal.Refusal.the-variants.{OutputTooShort, NothingToResend}
 use Rattle.frame.specs.Frame.{opening}
 use Rattle.frame.specs.View.{meaning}
 use Rattle.session.specs.Office.{reopen}

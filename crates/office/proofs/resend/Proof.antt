@@ -2,7 +2,7 @@ use mathlib.Core.Path.{refl, ap, sym, _∙_}
 use mathlib.Core.Option.{some}
 use lib.ListN.{length}
 use borrow.Author.Tests.{lt-ltb, le-ltb, le-leb, lt-leb, not-true, not-false}
-use Rattle.packet.specs.declared.Refusal.the-variants.{OutputTooShort, OfficeNotOpen, NothingToResend}
+use Rattle.base.specs.declared.refusal.Refusal.the-variants.{OutputTooShort, OfficeNotOpen, NothingToResend}
 use Rattle.frame.specs.Frame.{Change, order}
 use Rattle.frame.specs.View.{meaning}
 use Rattle.session.specs.Office.{kept-change, resend}

@@ -7,8 +7,8 @@ use Rattle.packet.specs.Packet.{packet-limit}
 use Rattle.frame.specs.View.{asked}
 use Rattle.order.specs.declared.change.Packet.{Packet}
 use Rattle.order.specs.Apply.{command-byte, command-data, order-packet}
-use Rattle.order.specs.Laws.{packet-of-short, built-front}
-use Rattle.order.specs.Keeps.{data-short}
+use Rattle.order.proofs.Laws.{packet-of-short, built-front}
+use Rattle.order.proofs.Keeps.{data-short}
 use borrow.Author.Needs.{needs}
 use Rattle.cabbox.proofs.obey.obey.Statement.{statement}
 use Rattle.cabbox.proofs.obey.obey.Tie as tie

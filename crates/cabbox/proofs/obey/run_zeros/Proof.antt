@@ -3,7 +3,7 @@ use native.Mathlib.Omega.{arith}
 use mathlib.Core.Path.{sym, _∙_}
 use lib.ListN.{take, replicate, length-take}
 use lib.Seq.{take-all, length-take-le}
-use Rattle.cabbox.specs.Laws.{take-replicate}
+use Rattle.cabbox.proofs.Laws.{take-replicate}
 use borrow.Author.Needs.{needs}
 use Rattle.cabbox.proofs.obey.run_zeros.Statement.{statement}
 use Rattle.cabbox.proofs.obey.run_zeros.Tie as tie

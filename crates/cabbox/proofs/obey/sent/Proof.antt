@@ -1,5 +1,5 @@
 use borrow.Author.Needs.{needs}
-use Rattle.packet.proofs.Tests.{tests}
+use Rattle.base.proofs.Tests.{tests}
 use Rattle.session.specs.Box.{sent}
 use Rattle.cabbox.proofs.obey.sent.Statement.{statement}
 use Rattle.cabbox.proofs.obey.sent.Tie as tie

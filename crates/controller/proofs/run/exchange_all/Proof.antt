@@ -8,7 +8,8 @@ use borrow.Author.Needs.{needs}
 use Rattle.controller.specs.declared.bus.Controller.{Controller}
 use Rattle.controller.specs.Bus.{after, out}
 use Rattle.controller.specs.BusState.{assembled}
-use Rattle.controller.specs.Run.{run, outs, run-more}
+use Rattle.controller.specs.Run.{run, outs}
+use Rattle.controller.proofs.RunLaws.{run-more}
 use Rattle.controller.proofs.Sent.{sent-more, take-least, drop-least}
 use Rattle.controller.proofs.run.exchange_all.Statement.{statement}
 use Rattle.controller.proofs.run.exchange_all.Tie as tie

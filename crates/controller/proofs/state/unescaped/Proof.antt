@@ -1,5 +1,5 @@
 use borrow.Author.Needs.{needs}
-use Rattle.packet.proofs.Tests.{tests}
+use Rattle.base.proofs.Tests.{tests}
 use Rattle.controller.specs.BusState.{unescaped}
 use Rattle.controller.proofs.state.unescaped.Statement.{statement}
 use Rattle.controller.proofs.state.unescaped.Tie as tie

@@ -1,7 +1,7 @@
 use mathlib.Core.Bool.{and-true}
 use mathlib.Core.Path.{_∙_}
 use borrow.Author.Needs.{needs}
-use Rattle.link.specs.FrameLaws.{asked-short}
+use Rattle.link.proofs.FrameLaws.{asked-short}
 use Rattle.link.proofs.decoder.allowed.Statement.{statement}
 use Rattle.link.proofs.decoder.allowed.Tie as tie
 

@@ -3,8 +3,8 @@ use lib.ListN.{length, drop}
 use lib.Seq.{take-all}
 use borrow.Author.Tests.{eq-eqb, le-leb}
 use borrow.Author.Needs.{needs}
-use Rattle.packet.proofs.Tests.{tests}
-use Rattle.link.specs.Frame.{promised-change}
+use Rattle.base.proofs.Tests.{tests}
+use Rattle.link.specs.Encoding.{promised-change}
 use Rattle.link.proofs.decoder.promised_order.Statement.{statement}
 use Rattle.link.proofs.decoder.promised_order.Tie as tie
 
@@ -50,8 +50,8 @@ returns-2 c =
 rest-requires-2 : tie.Need-rest-requires-2
 rest-requires-2 c κs = search needs
 
-word-requires : tie.Need-word-requires
-word-requires c κs = search needs
+le16-requires : tie.Need-le16-requires
+le16-requires c κs = search needs
 
 raise-requires : tie.Need-raise-requires
 raise-requires c κs = search needs
@@ -61,13 +61,13 @@ order-requires-2 c κs = search needs
 
 returns-3 : tie.Need-returns-3
 unfolding promised-change
-returns-3 c = search (needs, tests, c .order2 .ensures, c .before .raise .ensures, c .before .before .word .ensures, c .before .before .before .rest2 .ensures, ← (c .before .before .before .before .before .before .byte .ensures))
+returns-3 c = search (needs, tests, c .order2 .ensures, c .before .raise .ensures, c .before .before .le16 .ensures, c .before .before .before .rest2 .ensures, ← (c .before .before .before .before .before .before .byte .ensures))
 
 rest-requires-3 : tie.Need-rest-requires-3
 rest-requires-3 c κs = search needs
 
-word-requires-2 : tie.Need-word-requires-2
-word-requires-2 c κs = search needs
+le16-requires-2 : tie.Need-le16-requires-2
+le16-requires-2 c κs = search needs
 
 lower-requires : tie.Need-lower-requires
 lower-requires c κs = search needs
@@ -77,7 +77,7 @@ order-requires-3 c κs = search needs
 
 returns-4 : tie.Need-returns-4
 unfolding promised-change
-returns-4 c = search (needs, tests, c .order3 .ensures, c .before .lower .ensures, c .before .before .word2 .ensures, c .before .before .before .rest3 .ensures, ← (c .before .before .before .before .before .before .before .byte .ensures))
+returns-4 c = search (needs, tests, c .order3 .ensures, c .before .lower .ensures, c .before .before .le162 .ensures, c .before .before .before .rest3 .ensures, ← (c .before .before .before .before .before .before .before .byte .ensures))
 
 malformed-requires-2 : tie.Need-malformed-requires-2
 malformed-requires-2 c κs = search needs
@@ -99,12 +99,12 @@ promised-order-spec =
     order-requires
     returns-2
     rest-requires-2
-    word-requires
+    le16-requires
     raise-requires
     order-requires-2
     returns-3
     rest-requires-3
-    word-requires-2
+    le16-requires-2
     lower-requires
     order-requires-3
     returns-4

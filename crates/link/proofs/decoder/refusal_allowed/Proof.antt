@@ -1,5 +1,5 @@
 use borrow.Author.Needs.{needs}
-use Rattle.packet.proofs.Tests.{tests}
+use Rattle.base.proofs.Tests.{tests}
 use Rattle.link.proofs.decoder.refusal_allowed.Statement.{statement}
 use Rattle.link.proofs.decoder.refusal_allowed.Tie as tie
 

@@ -2,7 +2,7 @@ use Prim.Native.Nat.{_≤_, _-_}
 use mathlib.Core.Path.{_≡_, refl, sym, _∙_}
 use lib.ListN.{length, drop}
 use borrow.Author.Needs.{needs}
-use Rattle.link.specs.Frame.{same}
+use Rattle.link.specs.Encoding.{same}
 use Rattle.link.proofs.Reading.{same-next, same-stop, same-end, same-lengths}
 use Rattle.link.proofs.decoder.same_bytes.Statement.{statement}
 use Rattle.link.proofs.decoder.same_bytes.Tie as tie

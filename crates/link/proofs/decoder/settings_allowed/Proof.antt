@@ -1,5 +1,5 @@
 use borrow.Author.Needs.{needs}
-use Rattle.packet.proofs.Tests.{tests}
+use Rattle.base.proofs.Tests.{tests}
 use Rattle.link.proofs.decoder.settings_allowed.Statement.{statement}
 use Rattle.link.proofs.decoder.settings_allowed.Tie as tie
 

@@ -1,8 +1,8 @@
 use mathlib.Core.Path.{refl, _∙_}
 use borrow.Author.Tests.{le-ltb}
 use borrow.Author.Needs.{needs}
-use Rattle.packet.proofs.Loops.{sets-front}
-use Rattle.packet.proofs.Tests.{tests}
+use Rattle.base.proofs.Lists.{sets-front}
+use Rattle.base.proofs.Tests.{tests}
 use Rattle.link.specs.View.{sent-bytes, sent-refusal}
 use Rattle.link.proofs.encoded.put.Statement.{statement}
 use Rattle.link.proofs.encoded.put.Tie as tie

@@ -2,7 +2,7 @@ use native.Mathlib.Omega.{arith}
 use mathlib.Core.Path.{refl, _∙_}
 use borrow.Author.Needs.{needs}
 use Rattle.frame.specs.Frame.{ack}
-use Rattle.link.specs.Frame.{encode}
+use Rattle.link.specs.Encoding.{encode}
 use Rattle.link.proofs.Building.{built}
 use Rattle.link.proofs.encoder.ack.Statement.{statement}
 use Rattle.link.proofs.encoder.ack.Tie as tie

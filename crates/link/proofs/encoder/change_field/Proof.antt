@@ -17,30 +17,30 @@ slice-aggregate-command-field c = search needs
 
 command-field-requires : tie.Need-command-field-requires
 command-field-requires c κs =
-    let long : length (c .before .before .before .before .before .before .before .args .change .body) ≡ 16 = search needs in
+    let le32 : length (c .before .before .before .before .before .before .before .args .change .body) ≡ 16 = search needs in
     search needs
 
 returns : tie.Need-returns
 returns c =
     let x = c .before .before .before .before .before .before .before .before .args .change in
-    let long : length (x .body) ≡ 16 = search needs in
+    let le32 : length (x .body) ≡ 16 = search needs in
     c .command-field .ensures ∙ rw (c .before .before .before .before .before .before .ask .given .1, take-all (x .count) (x .body) (omega arith))
 
 array-share-prefix-body : tie.Need-array-share-prefix-body
 array-share-prefix-body c =
-    let long : length (c .before .before .before .before .before .before .args .change .body) ≡ 16 = search needs in
+    let le32 : length (c .before .before .before .before .before .before .args .change .body) ≡ 16 = search needs in
     omega arith
 
 slice-aggregate-command-field-2 : tie.Need-slice-aggregate-command-field-2
 slice-aggregate-command-field-2 c =
     let x = c .before .before .before .before .before .before .before .args .change in
-    let long : length (x .body) ≡ 16 = search needs in
+    let le32 : length (x .body) ≡ 16 = search needs in
     sym (length-take-le (x .count) (x .body) (omega arith))
 
 command-field-requires-2 : tie.Need-command-field-requires-2
 command-field-requires-2 c κs =
     let x = c .before .before .before .before .before .before .before .args .change in
-    let long : length (x .body) ≡ 16 = search needs in
+    let le32 : length (x .body) ≡ 16 = search needs in
     let taken : length (take (x .count) (x .body)) ≡ x .count = length-take-le (x .count) (x .body) (omega arith) in
     search needs
 

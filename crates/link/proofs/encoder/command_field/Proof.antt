@@ -5,7 +5,7 @@ use mathlib.Core.List.{List, [], _∷_}
 use mathlib.Core.Path.{_∙_}
 use lib.ListN.{length}
 use borrow.Author.Needs.{needs}
-use Rattle.number.specs.Number.{word-bytes}
+use Rattle.number.specs.Number.{le16-bytes}
 use Rattle.link.specs.Steps.{pushed}
 use Rattle.link.proofs.Building.{pushed-append}
 use Rattle.link.proofs.encoder.command_field.Statement.{statement}
@@ -35,7 +35,7 @@ returns : tie.Need-returns
 returns c =
     let a = c .before .before .before .before .before .args in
     let d = a .bytes .now in
-    let head : List ℕ = 0x21 ∷ word-bytes (suc (length d)) in
+    let head : List ℕ = 0x21 ∷ le16-bytes (suc (length d)) in
     c .push2 .ensures
     ∙ rw (c .before .push .ensures, c .before .before .before .header .ensures, add-one (length d))
     (pushed-append (pushed (a .e) head) (a .command ∷ []) d ∙ pushed-append (a .e) head (a .command ∷ d))

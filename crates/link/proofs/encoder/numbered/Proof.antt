@@ -4,8 +4,8 @@ use borrow.Author.Needs.{needs}
 use Rattle.link.proofs.encoder.numbered.Statement.{statement}
 use Rattle.link.proofs.encoder.numbered.Tie as tie
 
-long-bytes-requires : tie.Need-long-bytes-requires
-long-bytes-requires c κs = search needs
+le32-bytes-requires : tie.Need-le32-bytes-requires
+le32-bytes-requires c κs = search needs
 
 array-read-t8 : tie.Need-array-read-t8
 array-read-t8 c = search needs
@@ -27,7 +27,7 @@ high-requires c κs = search needs
 
 returns : tie.Need-returns
 returns c =
-    let s = c .before .before .long-bytes .ensures in
+    let s = c .before .before .le32-bytes .ensures in
     let l = c .before .low .ensures in
     let h = c .high .ensures in
     λ i. getD (s i) 0 0 ∷ getD (s i) 1 0 ∷ getD (s i) 2 0 ∷ getD (s i) 3 0 ∷ l i ∷ h i ∷ []
@@ -36,7 +36,7 @@ pub numbered-spec : {M : Type 1} → statement M
 numbered-spec =
     tie.close
     (tie.spec
-    long-bytes-requires
+    le32-bytes-requires
     array-read-t8
     array-read-t11
     array-read-t14

@@ -1,11 +1,11 @@
 use native.Mathlib.Omega.{arith}
 use mathlib.Core.Path.{_∙_}
 use borrow.Author.Needs.{needs}
-use Rattle.link.specs.FrameLaws.{asked-short}
+use Rattle.link.proofs.FrameLaws.{asked-short}
 use Rattle.link.specs.Steps.{pushed}
 use Rattle.frame.specs.View.{asked}
 use Rattle.frame.specs.Frame.{order}
-use Rattle.link.specs.Frame.{encode}
+use Rattle.link.specs.Encoding.{encode}
 use Rattle.link.proofs.Building.{pushed-append, built}
 use Rattle.link.proofs.encoder.order.Statement.{statement}
 use Rattle.link.proofs.encoder.order.Tie as tie

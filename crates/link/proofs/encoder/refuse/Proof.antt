@@ -2,13 +2,13 @@ use native.Mathlib.Omega.{arith}
 use mathlib.Core.Path.{refl, _∙_}
 use borrow.Author.Needs.{needs}
 use Rattle.frame.specs.Frame.{refuse}
-use Rattle.link.specs.Frame.{encode}
+use Rattle.link.specs.Encoding.{encode}
 use Rattle.link.proofs.Building.{built}
 use Rattle.link.proofs.encoder.refuse.Statement.{statement}
 use Rattle.link.proofs.encoder.refuse.Tie as tie
 
-long-bytes-requires : tie.Need-long-bytes-requires
-long-bytes-requires c κs = search needs
+le32-bytes-requires : tie.Need-le32-bytes-requires
+le32-bytes-requires c κs = search needs
 
 array-read-t8 : tie.Need-array-read-t8
 array-read-t8 c = search needs
@@ -35,13 +35,13 @@ returns : tie.Need-returns
 unfolding encode
 returns c =
     let a = c .before .before .before .before .args in
-    c .field .ensures ∙ rw (c .before .before .empty .ensures, c .before .before .before .long-bytes .ensures) (built (refuse (a .session .0) (a .refusal)) refl)
+    c .field .ensures ∙ rw (c .before .before .empty .ensures, c .before .before .before .le32-bytes .ensures) (built (refuse (a .session .0) (a .refusal)) refl)
 
 pub refuse-spec : {M : Type 1} → statement M
 refuse-spec =
     tie.close
     (tie.spec
-    long-bytes-requires
+    le32-bytes-requires
     array-read-t8
     array-read-t11
     array-read-t14

@@ -2,15 +2,15 @@ use native.Mathlib.Omega.{arith}
 use mathlib.Core.Path.{refl, _∙_}
 use borrow.Author.Needs.{needs}
 use Rattle.link.specs.Steps.{pushed}
-use Rattle.registers.specs.BlockTheorems.{block-long}
+use Rattle.registers.proofs.BlockTheorems.{block-long}
 use Rattle.frame.specs.Frame.{welcome}
-use Rattle.link.specs.Frame.{encode}
+use Rattle.link.specs.Encoding.{encode}
 use Rattle.link.proofs.Building.{pushed-append, built}
 use Rattle.link.proofs.encoder.welcome.Statement.{statement}
 use Rattle.link.proofs.encoder.welcome.Tie as tie
 
-long-bytes-requires : tie.Need-long-bytes-requires
-long-bytes-requires c κs = search needs
+le32-bytes-requires : tie.Need-le32-bytes-requires
+le32-bytes-requires c κs = search needs
 
 block-requires : tie.Need-block-requires
 block-requires c κs = search needs
@@ -22,21 +22,21 @@ slice-aggregate-field : tie.Need-slice-aggregate-field
 slice-aggregate-field c = search needs
 
 field-requires : tie.Need-field-requires
-field-requires c κs = rw (c .before .empty .ensures, c .before .before .before .long-bytes .ensures) (omega arith)
+field-requires c κs = rw (c .before .empty .ensures, c .before .before .before .le32-bytes .ensures) (omega arith)
 
 slice-aggregate-field-2 : tie.Need-slice-aggregate-field-2
 slice-aggregate-field-2 c = search needs
 
 field-requires-2 : tie.Need-field-requires-2
 unfolding pushed
-field-requires-2 c κs = rw (c .before .field .ensures, c .before .before .before .empty .ensures, c .before .before .before .before .block .ensures, c .before .before .before .before .before .long-bytes .ensures) (omega (arith, block-long (c .before .before .before .before .before .before .args .settings)))
+field-requires-2 c κs = rw (c .before .field .ensures, c .before .before .before .empty .ensures, c .before .before .before .before .block .ensures, c .before .before .before .before .before .le32-bytes .ensures) (omega (arith, block-long (c .before .before .before .before .before .before .args .settings)))
 
 returns : tie.Need-returns
 unfolding encode
 returns c =
     let a = c .before .before .before .before .before .before .before .args in
     c .field2 .ensures
-    ∙ rw (c .before .before .field .ensures, c .before .before .before .before .empty .ensures, c .before .before .before .before .before .block .ensures, c .before .before .before .before .before .before .long-bytes .ensures)
+    ∙ rw (c .before .before .field .ensures, c .before .before .before .before .empty .ensures, c .before .before .before .before .before .block .ensures, c .before .before .before .before .before .before .le32-bytes .ensures)
     (pushed-append _ _ _)
     ∙ built (welcome (a .session .0) (a .settings)) refl
 
@@ -44,7 +44,7 @@ pub welcome-spec : {M : Type 1} → statement M
 welcome-spec =
     tie.close
     (tie.spec
-    long-bytes-requires
+    le32-bytes-requires
     block-requires
     empty-requires
     slice-aggregate-field

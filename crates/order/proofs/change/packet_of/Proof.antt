@@ -3,7 +3,7 @@ use native.Mathlib.Omega.{arith}
 use lib.ListN.{length}
 use lib.Seq.{length-take-le}
 use borrow.Author.Needs.{needs}
-use Rattle.order.specs.Laws.{resolved-short}
+use Rattle.order.proofs.Laws.{resolved-short}
 use Rattle.order.proofs.change.packet_of.Statement.{statement}
 use Rattle.order.proofs.change.packet_of.Tie as tie
 

@@ -4,10 +4,11 @@ use mathlib.Core.List.{List}
 use native.Mathlib.Omega.{arith}
 use lib.ListN.{length}
 use Rattle.packet.specs.Packet.{packet-of}
-use Rattle.packet.specs.Answer.{accepted, refused}
-use Rattle.packet.specs.Writer.{written, written-whole}
+use Rattle.base.specs.Result.{accepted, refused}
+use Rattle.packet.specs.Writer.{written}
+use Rattle.packet.proofs.WriterLaws.{written-whole}
 use Rattle.registers.specs.Commands.{access}
-use Rattle.order.specs.Laws.{command-byte-back, packet-of-short}
+use Rattle.order.proofs.Laws.{command-byte-back, packet-of-short}
 use borrow.Author.Needs.{needs}
 use Rattle.order.proofs.change.written.Statement.{statement}
 use Rattle.order.proofs.change.written.Tie as tie

@@ -6,8 +6,8 @@ use lib.ListN.{length, getD, drop, drop-of-length-le}
 use lib.Dec.{eqb}
 use borrow.Author.Tests.{eq-eqb, ne-eqb}
 use borrow.Author.Needs.{needs}
-use Rattle.packet.proofs.Loops.{drop-more}
-use Rattle.controller.specs.ReadsBack.{has-escape}
+use Rattle.base.proofs.Lists.{drop-more}
+use Rattle.packet.specs.Packet.{has-escape}
 use Rattle.order.proofs.effect.has_escape.Statement.{statement}
 use Rattle.order.proofs.effect.has_escape.Tie as tie
 

@@ -1,5 +1,5 @@
 use Rattle.packet.specs.Reply.{after-response}
-use Rattle.packet.proofs.Tests.{tests}
+use Rattle.base.proofs.Tests.{tests}
 use borrow.Author.Needs.{needs}
 use Rattle.packet.proofs.reply.after_response.Statement.{statement}
 use Rattle.packet.proofs.reply.after_response.Tie as tie

@@ -1,5 +1,5 @@
 use borrow.Author.Needs.{needs}
-use Rattle.packet.proofs.Tests.{tests}
+use Rattle.base.proofs.Tests.{tests}
 use Rattle.packet.proofs.reply.reserved.Statement.{statement}
 use Rattle.packet.proofs.reply.reserved.Tie as tie
 

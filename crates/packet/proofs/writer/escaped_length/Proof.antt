@@ -1,6 +1,6 @@
 use borrow.Author.Needs.{needs}
 use Rattle.packet.specs.Packet.{escape-byte}
-use Rattle.packet.proofs.Tests.{tests}
+use Rattle.base.proofs.Tests.{tests}
 use Rattle.packet.proofs.writer.escaped_length.Statement.{statement}
 use Rattle.packet.proofs.writer.escaped_length.Tie as tie
 

@@ -1,5 +1,5 @@
 use mathlib.Core.Path.{sym}
-use Rattle.packet.specs.PacketLaws.{fields-length}
+use Rattle.packet.proofs.PacketLaws.{fields-length}
 use borrow.Author.Needs.{needs}
 use Rattle.packet.proofs.writer.packet_length.Statement.{statement}
 use Rattle.packet.proofs.writer.packet_length.Tie as tie

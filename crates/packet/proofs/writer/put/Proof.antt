@@ -3,7 +3,7 @@ use native.Mathlib.Omega.{arith}
 use native.Mathlib.Numerals.{add-one}
 use mathlib.Core.Path.{refl}
 use lib.Seq.{lt-length-set}
-use Rattle.packet.specs.PacketLaws.{escape-start, escape-escape, escape-other}
+use Rattle.packet.proofs.PacketLaws.{escape-start, escape-escape, escape-other}
 use Rattle.packet.proofs.writer.put.Statement.{statement}
 use Rattle.packet.proofs.writer.put.Tie as tie
 

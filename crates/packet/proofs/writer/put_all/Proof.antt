@@ -5,7 +5,8 @@ use mathlib.Core.Path.{_≡_, refl, ap, _∙_}
 use lib.ListN.{length, getD, take, length-append}
 use lib.Seq.{take-all, sets, length-sets}
 use Rattle.packet.specs.Packet.{escape-byte, escape}
-use Rattle.packet.proofs.Loops.{escape-more, sets-append, escape-within}
+use Rattle.base.proofs.Lists.{sets-append}
+use Rattle.packet.proofs.Loops.{escape-more, escape-within}
 use Rattle.packet.proofs.writer.put_all.Statement.{statement}
 use Rattle.packet.proofs.writer.put_all.Tie as tie
 

@@ -5,8 +5,8 @@ use lib.ListN.{length, length-set, length-append}
 use lib.Seq.{sets, length-sets}
 use mathlib.Core.List.{List, _∷_, _++_}
 use Rattle.packet.specs.Packet.{escape-byte, escape, fields}
-use Rattle.packet.proofs.Loops.{sets-next, sets-front}
-use Rattle.packet.specs.PacketLaws.{fields-length}
+use Rattle.base.proofs.Lists.{sets-next, sets-front}
+use Rattle.packet.proofs.PacketLaws.{fields-length}
 use Rattle.packet.proofs.writer.put_packet.Statement.{statement}
 use Rattle.packet.proofs.writer.put_packet.Tie as tie
 

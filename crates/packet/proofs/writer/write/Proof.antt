@@ -1,10 +1,11 @@
 use Prim.Native.Nat.{_<_, _≤_}
 use mathlib.Core.Path.{_≡_, ap, _∙_}
 use lib.ListN.{length}
-use Rattle.packet.specs.Answer.{accepted}
-use Rattle.packet.specs.Writer.{written, written-whole}
+use Rattle.base.specs.Result.{accepted}
+use Rattle.packet.specs.Writer.{written}
+use Rattle.packet.proofs.WriterLaws.{written-whole}
 use Rattle.packet.specs.Packet.{fields, packet-of, packet}
-use Rattle.packet.proofs.Tests.{tests}
+use Rattle.base.proofs.Tests.{tests}
 use borrow.Author.Needs.{needs}
 use Rattle.packet.proofs.writer.write.Statement.{statement}
 use Rattle.packet.proofs.writer.write.Tie as tie

@@ -1,11 +1,11 @@
 use borrow.Author.Needs.{needs}
-use Rattle.packet.proofs.Tests.{tests}
+use Rattle.base.proofs.Tests.{tests}
 use Rattle.registers.specs.Block.{from-block}
 use Rattle.registers.proofs.block_bytes.from_block.Statement.{statement}
 use Rattle.registers.proofs.block_bytes.from_block.Tie as tie
 
-word-requires : tie.Need-word-requires
-word-requires c κs = search needs
+le16-requires : tie.Need-le16-requires
+le16-requires c κs = search needs
 
 byte-requires : tie.Need-byte-requires
 byte-requires c κs = search needs
@@ -45,13 +45,13 @@ status-from-requires c κs = search needs
 
 returns : tie.Need-returns
 unfolding from-block
-returns c = search (needs, tests, c .status-from .ensures, c .before .rest4 .ensures, c .before .before .area-from .ensures, c .before .before .before .rest3 .ensures, c .before .before .before .before .bezel-from .ensures, c .before .before .before .before .before .rest2 .ensures, c .before .before .before .before .before .before .heater-from .ensures, c .before .before .before .before .before .before .before .rest .ensures, c .before .before .before .before .before .before .before .before .byte4 .ensures, c .before .before .before .before .before .before .before .before .before .byte3 .ensures, c .before .before .before .before .before .before .before .before .before .before .byte2 .ensures, c .before .before .before .before .before .before .before .before .before .before .before .byte .ensures, c .before .before .before .before .before .before .before .before .before .before .before .before .word .ensures)
+returns c = search (needs, tests, c .status-from .ensures, c .before .rest4 .ensures, c .before .before .area-from .ensures, c .before .before .before .rest3 .ensures, c .before .before .before .before .bezel-from .ensures, c .before .before .before .before .before .rest2 .ensures, c .before .before .before .before .before .before .heater-from .ensures, c .before .before .before .before .before .before .before .rest .ensures, c .before .before .before .before .before .before .before .before .byte4 .ensures, c .before .before .before .before .before .before .before .before .before .byte3 .ensures, c .before .before .before .before .before .before .before .before .before .before .byte2 .ensures, c .before .before .before .before .before .before .before .before .before .before .before .byte .ensures, c .before .before .before .before .before .before .before .before .before .before .before .before .le16 .ensures)
 
 pub from-block-spec : {M : Type 1} → statement M
 from-block-spec =
     tie.close
     (tie.spec
-    word-requires
+    le16-requires
     byte-requires
     byte-requires-2
     byte-requires-3

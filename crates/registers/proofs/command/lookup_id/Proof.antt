@@ -1,5 +1,5 @@
 use borrow.Author.Needs.{needs}
-use Rattle.packet.proofs.Tests.{tests}
+use Rattle.base.proofs.Tests.{tests}
 use Rattle.registers.specs.Commands.{lookup}
 use Rattle.registers.proofs.command.lookup_id.Statement.{statement}
 use Rattle.registers.proofs.command.lookup_id.Tie as tie

@@ -5,7 +5,7 @@ use mathlib.Core.List.{List, [], _∷_, _++_}
 use lib.ListN.{length, length-append, replicate}
 use Rattle.packet.specs.Packet.{checksum}
 use Rattle.packet.specs.Reply.{success}
-use Rattle.packet.proofs.Loops.{overwritten-snoc}
+use Rattle.base.proofs.Lists.{overwritten-snoc}
 use borrow.Author.Needs.{needs}
 use Rattle.registers.proofs.command.success.Statement.{statement}
 use Rattle.registers.proofs.command.success.Tie as tie

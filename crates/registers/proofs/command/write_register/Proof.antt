@@ -1,5 +1,5 @@
 use borrow.Author.Needs.{needs}
-use Rattle.packet.proofs.Tests.{tests}
+use Rattle.base.proofs.Tests.{tests}
 use Rattle.registers.specs.Commands.{write-register}
 use Rattle.registers.proofs.command.write_register.Statement.{statement}
 use Rattle.registers.proofs.command.write_register.Tie as tie

@@ -1,13 +1,13 @@
 use borrow.Author.Needs.{needs}
-use Rattle.packet.proofs.Tests.{tests}
+use Rattle.base.proofs.Tests.{tests}
 use Rattle.registers.proofs.command.written.Statement.{statement}
 use Rattle.registers.proofs.command.written.Tie as tie
 
 enum-told : tie.Need-enum-told
 enum-told c = search needs
 
-word-requires : tie.Need-word-requires
-word-requires c κs = search needs
+le16-requires : tie.Need-le16-requires
+le16-requires c κs = search needs
 
 enum-told-2 : tie.Need-enum-told-2
 enum-told-2 c = search needs
@@ -55,7 +55,7 @@ area-from-requires : tie.Need-area-from-requires
 area-from-requires c κs = search needs
 
 returns : tie.Need-returns
-returns c = search (needs, tests, c .word .ensures, c .before .enum-told .given .1)
+returns c = search (needs, tests, c .le16 .ensures, c .before .enum-told .given .1)
 
 returns-2 : tie.Need-returns-2
 returns-2 c = search (needs, tests, c .byte .ensures, c .before .enum-told2 .given .1)
@@ -86,7 +86,7 @@ written-spec =
     tie.close
     (tie.spec
     enum-told
-    word-requires
+    le16-requires
     enum-told-2
     byte-requires
     enum-told-3

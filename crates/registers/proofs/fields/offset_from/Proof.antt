@@ -5,8 +5,8 @@ use borrow.Author.Needs.{needs, sfits-of}
 use Rattle.registers.proofs.fields.offset_from.Statement.{statement}
 use Rattle.registers.proofs.fields.offset_from.Tie as tie
 
-word-requires : tie.Need-word-requires
-word-requires c κs = search needs
+le16-requires : tie.Need-le16-requires
+le16-requires c κs = search needs
 
 byte-requires : tie.Need-byte-requires
 byte-requires c κs = search needs
@@ -18,7 +18,7 @@ returns : tie.Need-returns
 returns c =
     toZ-ofZ {z = c .offset .result} (sfits-of {w = w32} (c .offset .ok))
     ∙ c .offset .ensures
-    ∙ rw (c .before .byte .ensures, c .before .before .word .ensures)
+    ∙ rw (c .before .byte .ensures, c .before .before .le16 .ensures)
 
 pub offset-from-spec : {M : Type 1} → statement M
-offset-from-spec = tie.close (tie.spec word-requires byte-requires offset-requires returns)
+offset-from-spec = tie.close (tie.spec le16-requires byte-requires offset-requires returns)

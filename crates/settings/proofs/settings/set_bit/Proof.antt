@@ -1,4 +1,4 @@
-use Rattle.packet.proofs.Tests.{tests}
+use Rattle.base.proofs.Tests.{tests}
 use Rattle.settings.specs.Settings.{set-bit}
 use borrow.Author.Needs.{needs}
 use Rattle.settings.proofs.settings.set_bit.Statement.{statement}

@@ -1,5 +1,5 @@
 use borrow.Author.Needs.{needs}
-use Rattle.packet.proofs.Tests.{tests}
+use Rattle.base.proofs.Tests.{tests}
 use Rattle.text.specs.Text.{decimal}
 use Rattle.text.proofs.digits.decimal.Statement.{statement}
 use Rattle.text.proofs.digits.decimal.Tie as tie

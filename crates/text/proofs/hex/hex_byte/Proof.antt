@@ -1,5 +1,5 @@
 use borrow.Author.Needs.{needs}
-use Rattle.packet.proofs.Tests.{tests}
+use Rattle.base.proofs.Tests.{tests}
 use Rattle.text.specs.Text.{hex-byte}
 use Rattle.text.proofs.hex.hex_byte.Statement.{statement}
 use Rattle.text.proofs.hex.hex_byte.Tie as tie

@@ -1,7 +1,7 @@
 use borrow.Author.Needs.{needs}
 use native.Mathlib.Omega.{arith}
 use borrow.Author.Tests.{le-leb, lt-leb}
-use Rattle.packet.proofs.Tests.{tests}
+use Rattle.base.proofs.Tests.{tests}
 use Rattle.text.specs.Text.{hex-digit}
 use Rattle.text.proofs.hex.hex_digit.Statement.{statement}
 use Rattle.text.proofs.hex.hex_digit.Tie as tie

@@ -1,5 +1,5 @@
 use borrow.Author.Needs.{needs}
-use Rattle.packet.proofs.Tests.{tests}
+use Rattle.base.proofs.Tests.{tests}
 use Rattle.text.specs.Text.{part}
 use Rattle.text.proofs.place.part.Statement.{statement}
 use Rattle.text.proofs.place.part.Tie as tie

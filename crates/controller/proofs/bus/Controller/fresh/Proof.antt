@@ -1,5 +1,5 @@
 use borrow.Author.Needs.{needs}
-use Rattle.packet.proofs.Tests.{tests}
+use Rattle.base.proofs.Tests.{tests}
 use Rattle.controller.proofs.bus.Controller.fresh.Statement.{statement}
 use Rattle.controller.proofs.bus.Controller.fresh.Tie as tie
 

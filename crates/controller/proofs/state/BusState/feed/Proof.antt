@@ -1,7 +1,7 @@
 use Prim.Native.Nat.{ℕ}
 use mathlib.Core.List.{List}
 use borrow.Author.Needs.{needs}
-use Rattle.packet.proofs.Tests.{tests}
+use Rattle.base.proofs.Tests.{tests}
 use Rattle.settings.specs.declared.settings.Settings.{Settings}
 use Rattle.controller.specs.Bus.{feed-at}
 use Rattle.controller.proofs.state.BusState.feed.Statement.{statement}

@@ -5,7 +5,7 @@ use mathlib.Core.Path.{_≡_, sym}
 use lib.ListN.{length}
 use lib.Seq.{length-take-le}
 use borrow.Author.Needs.{needs}
-use Rattle.packet.proofs.Tests.{tests}
+use Rattle.base.proofs.Tests.{tests}
 use Rattle.controller.specs.Bus.{judge}
 use Rattle.controller.proofs.state.BusState.judged.Statement.{statement}
 use Rattle.controller.proofs.state.BusState.judged.Tie as tie

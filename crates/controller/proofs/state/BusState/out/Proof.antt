@@ -1,5 +1,5 @@
 use borrow.Author.Needs.{needs}
-use Rattle.packet.proofs.Tests.{tests}
+use Rattle.base.proofs.Tests.{tests}
 use Rattle.controller.specs.Bus.{out}
 use Prim.Native.Nat.{ℕ}
 use mathlib.Core.List.{List}

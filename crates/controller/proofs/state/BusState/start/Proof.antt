@@ -1,5 +1,5 @@
 use borrow.Author.Needs.{needs}
-use Rattle.packet.proofs.Tests.{tests}
+use Rattle.base.proofs.Tests.{tests}
 use Rattle.controller.specs.Bus.{start}
 use Rattle.controller.proofs.state.BusState.start.Statement.{statement}
 use Rattle.controller.proofs.state.BusState.start.Tie as tie

@@ -1,6 +1,6 @@
 use lib.ListN.{replicate}
 use borrow.Author.Needs.{needs}
-use Rattle.packet.proofs.Loops.{sets-front}
+use Rattle.base.proofs.Lists.{sets-front}
 use Rattle.frame.proofs.frame.Change.of_command.Statement.{statement}
 use Rattle.frame.proofs.frame.Change.of_command.Tie as tie
 

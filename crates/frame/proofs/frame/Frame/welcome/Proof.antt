@@ -1,5 +1,5 @@
 use borrow.Author.Needs.{needs}
-use Rattle.packet.proofs.Tests.{tests}
+use Rattle.base.proofs.Tests.{tests}
 use Rattle.frame.proofs.frame.Frame.welcome.Statement.{statement}
 use Rattle.frame.proofs.frame.Frame.welcome.Tie as tie
 

@@ -1,4 +1,4 @@
-use Rattle.packet.proofs.Tests.{tests}
+use Rattle.base.proofs.Tests.{tests}
 use Rattle.settings.specs.Settings.{flagged}
 use borrow.Author.Needs.{needs}
 use Rattle.settings.proofs.settings.Settings.flagged.Statement.{statement}

@@ -1,4 +1,4 @@
-use Rattle.packet.proofs.Tests.{tests}
+use Rattle.base.proofs.Tests.{tests}
 use borrow.Author.Needs.{needs}
 use Rattle.settings.proofs.settings.StatusBytes.in_second.Statement.{statement}
 use Rattle.settings.proofs.settings.StatusBytes.in_second.Tie as tie

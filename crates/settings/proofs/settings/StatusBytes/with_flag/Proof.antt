@@ -1,5 +1,5 @@
 use borrow.Author.Needs.{needs}
-use Rattle.packet.proofs.Tests.{tests}
+use Rattle.base.proofs.Tests.{tests}
 use Rattle.settings.proofs.settings.StatusBytes.with_flag.Statement.{statement}
 use Rattle.settings.proofs.settings.StatusBytes.with_flag.Tie as tie
 

@@ -1,0 +1,4 @@
+pub mod ByteLaws
+pub mod Lists
+pub mod Refusals
+pub mod Tests

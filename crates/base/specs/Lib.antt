@@ -1,0 +1,4 @@
+pub mod Bytes
+pub mod Lent
+pub mod Refusal
+pub mod Result

@@ -1,0 +1,140 @@
+-- Refinement at the box: each call turns the box as the history's rules turn its history, with the same answer.
+use Prim.Native.Nat.{ℕ, _+_, _-_}
+use native.Mathlib.Omega.{arith}
+use mathlib.Core.Path.{_≡_, refl, sym, ap, _∙_, subst}
+use mathlib.Core.Bool.{true, false, cond}
+use mathlib.Core.List.{List, [], _∷_, _++_}
+use mathlib.Core.Option.{Option, none, some}
+use lib.ListN.{length}
+use lib.Dec.{eqb, leb, ltb}
+use borrow.Author.Tests.{eqb-true, eq-eqb}
+use Rattle.controller.specs.declared.bus.Controller.{Controller}
+use Rattle.settings.specs.declared.settings.Settings.{Settings}
+use Rattle.controller.specs.Run.{Ready}
+use Rattle.controller.proofs.Settles.{fresh-ready}
+use Rattle.frame.specs.Frame.{Change, Frame, opening, welcome, order, ack, refuse, ValidChange}
+use Rattle.link.specs.Encoding.{decode, Valid, valid-order}
+use Rattle.link.specs.View.{frame-limit}
+use Rattle.order.proofs.Keeps.{valid-short}
+use Rattle.order.proofs.Laws.{obeys}
+use Rattle.session.specs.declared.Cab.{Cab}
+use Rattle.session.proofs.Alike.{Alike, cond-both, same-test, eqb-sym}
+use Rattle.session.specs.Box.{cab-of, started, welcomed, acknowledged, opened-again, opened, sent, obeyed, ordered-here, ordered, received, frame-in}
+use Rattle.session.specs.Demand3.{BoxHistory, restarted, with-taken, updated, rule-open, rule-order, rule-box-frame}
+use Rattle.session.proofs.Tools.{updated-same, length-one-more}
+use Rattle.session.specs.Turn.{Turn, wrote, silent, refused, refused-by}
+
+-- histories and boxes that hold the settings of the controller κ; an open session is the highest
+abbrev history-of : Controller → ℕ → Option ℕ → (ℕ → List Change) → BoxHistory
+history-of κ highest session taken = record { highest = highest; session = session; settings = κ .settings; taken = taken }
+
+pub data CabAlike : Cab → BoxHistory → Type 0 where
+  closed : {κ : Controller} {highest count : ℕ} {taken : ℕ → List Change} → Ready κ →
+      CabAlike (cab-of κ highest false count) (history-of κ highest none taken)
+  active : {κ : Controller} {highest : ℕ} {taken : ℕ → List Change} → Ready κ →
+      CabAlike (cab-of κ highest true (length (taken highest))) (history-of κ highest (some highest) taken)
+
+abbrev pub BoxAlike : Turn Cab → Turn BoxHistory → Type 0
+BoxAlike t u = Alike CabAlike t u
+
+answered-alike : {c : Cab} {b : BoxHistory} {refusal : Option ℕ} {frame : Option Frame} → CabAlike c b →
+    BoxAlike (record { state = c; refusal = refusal; frame = frame }) (record { state = b; refusal = refusal; frame = frame })
+answered-alike a = record { states = a; same-refusal = refl; same-frame = refl }
+
+pub restart-alike : (b : BoxHistory) (told : ℕ) → BoxAlike (silent (started told)) (silent (restarted b told))
+restart-alike b told = answered-alike (closed fresh-ready)
+
+-- ---- OPEN
+
+newly-opened : (κ : Controller) (taken : ℕ → List Change) (s : ℕ) → Ready κ →
+    CabAlike (cab-of κ s true 0) (history-of κ s (some s) (updated taken s []))
+newly-opened κ taken s ready =
+    subst (λ (n : ℕ). CabAlike (cab-of κ s true n) (history-of κ s (some s) (updated taken s [])))
+    (ap length (updated-same taken s [])) (active ready)
+
+-- OPEN of the open session
+again-alike : (κ : Controller) (highest : ℕ) (taken : ℕ → List Change) → Ready κ → (s : ℕ) → highest ≡ s →
+    let c = cab-of κ highest true (length (taken highest)) in
+    let b = history-of κ highest (some highest) taken in
+    BoxAlike (cond (eqb (length (taken highest)) 0) (welcomed c) (acknowledged c))
+    (cond (eqb (length (taken s)) 0) (wrote b (welcome s (b .settings))) (wrote b (ack s (length (taken s)))))
+again-alike κ highest taken ready s e =
+    rw (← e) (cond-both BoxAlike (eqb (length (taken highest)) 0) _ _ _ _ (λ _. answered-alike (active ready)) (λ _. answered-alike (active ready)))
+
+open-alike : (c : Cab) (b : BoxHistory) → CabAlike c b → (s : ℕ) → BoxAlike (opened c s) (rule-open b s)
+unfolding opened opened-again rule-open
+open-alike _ _ (closed {κ} {highest} {count} {taken} ready) s =
+    cond-both BoxAlike (ltb highest s) _ _ _ _
+    (λ _. answered-alike (newly-opened κ taken s ready))
+    (λ _. answered-alike (closed ready))
+open-alike _ _ (active {κ} {highest} {taken} ready) s =
+    cond-both BoxAlike (ltb highest s) _ _ _ _
+    (λ _. answered-alike (newly-opened κ taken s ready))
+    (λ _. rw (eqb-sym s highest) (cond-both BoxAlike (eqb highest s) _ _ _ _
+    (λ e. again-alike κ highest taken ready s (eqb-true highest s e))
+    (λ _. answered-alike (active ready))))
+
+-- ---- ORDER
+
+-- the next order, run: the controller comes to what the change means
+taken-alike : (κ : Controller) (highest : ℕ) (taken : ℕ → List Change) (n : ℕ) (change : Change) → Ready κ → ValidChange change → n ≡ length (taken highest) + 1 →
+    CabAlike (cab-of (obeyed κ change) highest true n) (with-taken (history-of κ highest (some highest) taken) highest change)
+unfolding sent
+taken-alike κ highest taken n change ready valid next =
+    let obeyed-well = obeys κ change ready (valid-short (κ .settings .backlight) change valid) in
+    let more = updated taken highest (taken highest ++ (change ∷ [])) in
+    let count : length (more highest) ≡ n = ap length (updated-same taken highest (taken highest ++ (change ∷ []))) ∙ length-one-more (taken highest) change ∙ sym next in
+    subst (λ (m : ℕ). CabAlike (cab-of (obeyed κ change) highest true m) (with-taken (history-of κ highest (some highest) taken) highest change)) count
+    (subst (λ (σ : Settings). CabAlike (cab-of (obeyed κ change) highest true (length (more highest))) (record { highest = highest; session = some highest; settings = σ; taken = more }))
+    (obeyed-well .1) (active (obeyed-well .0)))
+
+next-test : (n k : ℕ) → eqb (n - k) 1 ≡ eqb n (k + 1)
+next-test n k =
+    same-test (eqb (n - k) 1) (eqb n (k + 1))
+    (λ e. eq-eqb n (k + 1) (omega (arith, eqb-true (n - k) 1 e)))
+    (λ e. eq-eqb (n - k) 1 (omega (arith, eqb-true n (k + 1) e)))
+
+-- ORDER of the open session
+here-alike : (κ : Controller) (highest : ℕ) (taken : ℕ → List Change) (n : ℕ) (change : Change) → Ready κ → ValidChange change → (s : ℕ) → highest ≡ s →
+    let c = cab-of κ highest true (length (taken highest)) in
+    let b = history-of κ highest (some highest) taken in
+    BoxAlike (ordered-here c n change)
+    (cond (leb n (length (taken s))) (wrote b (ack s (length (taken s))))
+    (cond (eqb n (length (taken s) + 1)) (wrote (with-taken b s change) (ack s n))
+    (refused-by b s 7)))
+unfolding ordered-here
+here-alike κ highest taken n change ready valid s e =
+    rw (← e) (cond-both BoxAlike (leb n (length (taken highest))) _ _ _ _ (λ _. answered-alike (active ready))
+    (λ _. rw (next-test n (length (taken highest))) (cond-both BoxAlike (eqb n (length (taken highest) + 1)) _ _ _ _
+    (λ next. answered-alike (taken-alike κ highest taken n change ready valid (eqb-true n (length (taken highest) + 1) next)))
+    (λ _. answered-alike (active ready)))))
+
+order-alike : (c : Cab) (b : BoxHistory) → CabAlike c b → (s n : ℕ) (change : Change) → ValidChange change →
+    BoxAlike (ordered c s n change) (rule-order (b .session) b s n change)
+unfolding ordered rule-order
+order-alike _ _ (closed ready) s n change valid = answered-alike (closed ready)
+order-alike _ _ (active {κ} {highest} {taken} ready) s n change valid =
+    rw (eqb-sym s highest) (cond-both BoxAlike (eqb highest s) _ _ _ _
+    (λ e. here-alike κ highest taken n change ready valid s (eqb-true highest s e))
+    (λ _. answered-alike (active ready)))
+
+-- ---- any frame
+
+read-alike : (c : Cab) (b : BoxHistory) → CabAlike c b → (m : Option Frame) → ((f : Frame) → m ≡ some f → Valid f) →
+    BoxAlike (received c m) (rule-box-frame b m)
+unfolding received rule-box-frame
+read-alike c b a none valid = answered-alike a
+read-alike c b a (some (opening s)) valid = open-alike c b a s
+read-alike c b a (some (welcome s σ)) valid = answered-alike a
+read-alike c b a (some (order s n change)) valid = by-valid (valid (order s n change) refl)
+  where
+    by-valid : Valid (order s n change) → BoxAlike (ordered c s n change) (rule-order (b .session) b s n change)
+    by-valid (valid-order _ _ _ v) = order-alike c b a s n change v
+read-alike c b a (some (ack s k)) valid = answered-alike a
+read-alike c b a (some (refuse s r)) valid = answered-alike a
+
+pub box-alike : (c : Cab) (b : BoxHistory) → CabAlike c b → (bytes : List ℕ) (room : ℕ) → ((f : Frame) → decode bytes ≡ some f → Valid f) →
+    BoxAlike (frame-in c bytes room) (cond (ltb room frame-limit) (refused b 1) (rule-box-frame b (decode bytes)))
+unfolding frame-in
+box-alike c b a bytes room valid =
+    cond-both BoxAlike (ltb room frame-limit) _ _ _ _ (λ _. answered-alike a) (λ _. read-alike c b a (decode bytes) valid)
