@@ -12,13 +12,13 @@ encode-requires c κs = search needs
 array-share-prefix-b : tie.Need-array-share-prefix-b
 array-share-prefix-b c =
     let e = c .before .encode in
-    let le32 : length (e .result .bytes) ≡ 37 = search needs in
+    let long : length (e .result .bytes) ≡ 37 = search needs in
     omega (arith, e .ensures .1 .1)
 
 slice-aggregate-same-bytes : tie.Need-slice-aggregate-same-bytes
 slice-aggregate-same-bytes c =
     let e = c .before .before .encode in
-    let le32 : length (e .result .bytes) ≡ 37 = search needs in
+    let long : length (e .result .bytes) ≡ 37 = search needs in
     sym (length-take-le (e .result .len) (e .result .bytes) (omega (arith, e .ensures .1 .1)))
 
 same-bytes-requires : tie.Need-same-bytes-requires

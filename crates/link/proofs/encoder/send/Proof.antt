@@ -17,13 +17,13 @@ encode-requires c κs = search needs
 array-share-prefix-bytes : tie.Need-array-share-prefix-bytes
 array-share-prefix-bytes c =
     let e = c .before .encode in
-    let le32 : length (e .result .bytes) ≡ 37 = search needs in
+    let long : length (e .result .bytes) ≡ 37 = search needs in
     omega (arith, e .ensures .1 .1)
 
 slice-aggregate-put : tie.Need-slice-aggregate-put
 slice-aggregate-put c =
     let e = c .before .before .encode in
-    let le32 : length (e .result .bytes) ≡ 37 = search needs in
+    let long : length (e .result .bytes) ≡ 37 = search needs in
     sym (length-take-le (e .result .len) (e .result .bytes) (omega (arith, e .ensures .1 .1)))
 
 put-requires : tie.Need-put-requires
