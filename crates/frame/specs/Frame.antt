@@ -1,7 +1,9 @@
 -- The five frames: document 01, "The adjustment link".
 use Prim.Native.Nat.{ℕ, _<_, _≤_}
+use mathlib.Core.Bool.{Bool, false}
 use mathlib.Core.List.{List}
 use lib.ListN.{length, getD}
+use lib.Dec.{ltb}
 use Rattle.settings.specs.declared.settings.Settings.{Settings}
 
 -- a command's most data bytes: the code's DATA_LIMIT, since a clause cannot name a constant of the code
@@ -13,6 +15,12 @@ pub data Change : Type 0 where
   command : ℕ → List ℕ → Change
   raise : ℕ → Change
   lower : ℕ → Change
+
+-- whether a change has more data than an ORDER can carry
+abbrev pub too-long : Change → Bool
+too-long (command k d) = ltb data-limit (length d)
+too-long (raise n) = false
+too-long (lower n) = false
 
 -- sessions come first, then an order's number, an acknowledged count or a refusal's number
 pub data Frame : Type 0 where

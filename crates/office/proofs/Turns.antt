@@ -10,14 +10,14 @@ use borrow.Author.Tests.{le-ltb, lt-leb, ne-eqb}
 use Rattle.base.specs.Refusal.{number}
 use Rattle.base.specs.declared.refusal.Refusal.{Refusal}
 use Rattle.base.specs.declared.refusal.Refusal.the-variants.{MalformedFrame}
-use Rattle.frame.specs.Frame.{Change, Frame, order}
+use Rattle.frame.specs.Frame.{Change, too-long, Frame, order}
 use Rattle.link.specs.View.{frame-limit}
 use Rattle.session.specs.declared.Office.{Office}
 use Rattle.session.specs.declared.Order.{Order}
 use Rattle.office.specs.declared.Received.{Received}
 use Rattle.office.specs.declared.Turned.{Turned}
 use Rattle.frame.specs.declared.verdict.Verdict.the-variants.{Accepted, Refused}
-use Rattle.session.specs.Office.{is-open, too-long, with-order, issue}
+use Rattle.session.specs.Office.{is-live, with-order, issue}
 use Rattle.session.specs.Turn.{Turn, Realises, wrote, silent, refused}
 use Rattle.frame.specs.View.{refusal-of}
 
@@ -44,7 +44,7 @@ order-there [] i d e h = absurd (not-suc-le-zero h)
 order-there (x ∷ window) zero d e h = refl
 order-there (x ∷ window) (suc i) d e h = order-there window i d e (le-of-suc-le-suc h)
 
-pub issued-whole : (o : Office) (change : Change) (room : ℕ) → is-open (o .stage) ≡ true → frame-limit ≤ room → too-long change ≡ false →
+pub issued-whole : (o : Office) (change : Change) (room : ℕ) → is-live (o .stage) ≡ true → frame-limit ≤ room → too-long change ≡ false →
     (o .issued .0 ≡ 65535 → ⊥) → o .issued .0 - o .confirmed .0 < 8 →
     issue o change room ≡ wrote (with-order o change) (order (o .session .0) (o .issued .0 + 1) change)
 unfolding issue

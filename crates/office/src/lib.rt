@@ -41,30 +41,30 @@ pub struct Received {
     pub verdict: Verdict,
 }
 
-fn is_opening(stage: Stage) -> bool
-    ensures { λ r. ⌜ r ≡ spec.is-opening stage ⌝ }
+fn is_awaiting(stage: Stage) -> bool
+    ensures { λ r. ⌜ r ≡ spec.is-awaiting stage ⌝ }
 {
     match stage {
-        Stage::Never => false,
-        Stage::Opening => true,
-        Stage::Open => false,
+        Stage::Unopened => false,
+        Stage::Awaiting => true,
+        Stage::Live => false,
         Stage::Ended => false,
     }
 }
 
-fn is_open(stage: Stage) -> bool
-    ensures { λ r. ⌜ r ≡ spec.is-open stage ⌝ }
+fn is_live(stage: Stage) -> bool
+    ensures { λ r. ⌜ r ≡ spec.is-live stage ⌝ }
 {
     match stage {
-        Stage::Never => false,
-        Stage::Opening => false,
-        Stage::Open => true,
+        Stage::Unopened => false,
+        Stage::Awaiting => false,
+        Stage::Live => true,
         Stage::Ended => false,
     }
 }
 
 fn too_long(ask: Ask, bytes: &[u8]) -> bool
-    ensures { λ r. ⌜ r ≡ spec.too-long (asked-as ask (now (bytes .entry))) ⌝ }
+    ensures { λ r. ⌜ r ≡ frames.too-long (asked-as ask (now (bytes .entry))) ⌝ }
 {
     match ask {
         Ask::Command(_) => DATA_LIMIT < bytes.len(),
@@ -74,7 +74,7 @@ fn too_long(ask: Ask, bytes: &[u8]) -> bool
 }
 
 fn change(ask: Ask, bytes: &[u8]) -> Change
-    requires { ⌜ spec.too-long (asked-as ask (now bytes)) ≡ false ⌝ }
+    requires { ⌜ frames.too-long (asked-as ask (now bytes)) ≡ false ⌝ }
     ensures whole { λ r. ⌜ r ≡ change-of (asked-as ask (now (bytes .entry))) ⌝ }
     ensures meaning { λ r. ⌜ asked r ≡ asked-as ask (now (bytes .entry)) ⌝ }
 {
@@ -96,12 +96,12 @@ fn is_ending(refusal: u8) -> bool
 }
 
 fn in_session(stage: Stage) -> bool
-    ensures { λ r. ⌜ r ≡ spec.is-opening stage || spec.is-open stage ⌝ }
+    ensures { λ r. ⌜ r ≡ spec.is-awaiting stage || spec.is-live stage ⌝ }
 {
-    if is_opening(stage) {
+    if is_awaiting(stage) {
         return true;
     }
-    is_open(stage)
+    is_live(stage)
 }
 
 // An office at no order, with the settings of a fresh controller until WELCOME tells others.
@@ -126,7 +126,7 @@ fn at_start(stage: Stage, session: SessionId) -> Office
 pub fn new() -> Office
     ensures { λ r. ⌜ r ≡ spec.never ⌝ }
 {
-    at_start(Stage::Never, SessionId(0))
+    at_start(Stage::Unopened, SessionId(0))
 }
 
 fn refused(office: Office, refusal: Refusal) -> Turned
@@ -161,7 +161,7 @@ pub fn open(office: Office, session: SessionId, out: &mut [u8]) -> Turned
     if out.len() < FRAME_LIMIT {
         return refused(office, Refusal::OutputTooShort);
     }
-    let opened = at_start(Stage::Opening, session);
+    let opened = at_start(Stage::Awaiting, session);
     wrote(opened, Frame::opening(session), &mut *out)
 }
 
@@ -190,7 +190,7 @@ fn with_order(office: Office, change: Change) -> Office
     let settings = office.settings;
     let confirmed = office.confirmed;
     Office {
-        stage: Stage::Open,
+        stage: Stage::Live,
         session,
         settings: order::apply(settings, change),
         issued: number,
@@ -217,7 +217,7 @@ pub fn issue(office: Office, ask: Ask, bytes: &[u8], out: &mut [u8]) -> Turned
     ensures { λ r. ⌜ turn.Realises (spec.issue office (asked-as ask (now (bytes .entry))) (length (now (out .entry)))) (r .office) (refusal-of (r .verdict)) (r .len) (now (out .entry)) (now (out .exit)) ⌝ }
 {
     let stage = office.stage;
-    if !is_open(stage) {
+    if !is_live(stage) {
         return refused(office, Refusal::OfficeNotOpen);
     }
     if out.len() < FRAME_LIMIT {
@@ -249,7 +249,7 @@ pub fn resend(office: Office, number: OrderNumber, out: &mut [u8]) -> Turned
     ensures { λ r. ⌜ turn.Realises (spec.resend office (number .0) (length (now (out .entry)))) (r .office) (refusal-of (r .verdict)) (r .len) (now (out .entry)) (now (out .exit)) ⌝ }
 {
     let stage = office.stage;
-    if !is_open(stage) {
+    if !is_live(stage) {
         return refused(office, Refusal::OfficeNotOpen);
     }
     let n = number.0;
@@ -278,7 +278,7 @@ pub fn reopen(office: Office, out: &mut [u8]) -> Turned
     ensures { λ r. ⌜ turn.Realises (spec.reopen office (length (now (out .entry)))) (r .office) (refusal-of (r .verdict)) (r .len) (now (out .entry)) (now (out .exit)) ⌝ }
 {
     let stage = office.stage;
-    if !is_opening(stage) {
+    if !is_awaiting(stage) {
         return refused(office, Refusal::NothingToResend);
     }
     if out.len() < FRAME_LIMIT {
@@ -292,7 +292,7 @@ fn welcomed(office: Office, session: SessionId, settings: Settings) -> Office
     ensures { λ r. ⌜ r ≡ spec.welcomed office (session .0) settings ⌝ }
 {
     let stage = office.stage;
-    if !is_opening(stage) {
+    if !is_awaiting(stage) {
         return office;
     }
     let own = office.session.0;
@@ -301,7 +301,7 @@ fn welcomed(office: Office, session: SessionId, settings: Settings) -> Office
     }
     let window = office.window;
     Office {
-        stage: Stage::Open,
+        stage: Stage::Live,
         session,
         settings,
         issued: OrderNumber(0),
@@ -315,7 +315,7 @@ fn acknowledged(office: Office, session: SessionId, count: OrderNumber) -> Offic
     ensures { λ r. ⌜ r ≡ spec.acknowledged office (session .0) (count .0) ⌝ }
 {
     let stage = office.stage;
-    if !is_open(stage) {
+    if !is_live(stage) {
         return office;
     }
     let own = office.session.0;
@@ -334,7 +334,7 @@ fn acknowledged(office: Office, session: SessionId, count: OrderNumber) -> Offic
     let settings = office.settings;
     let window = office.window;
     Office {
-        stage: Stage::Open,
+        stage: Stage::Live,
         session,
         settings,
         issued,
@@ -411,9 +411,9 @@ pub fn progress(office: Office) -> Progress
 {
     let stage = office.stage;
     match stage {
-        Stage::Never => Progress::Waiting,
-        Stage::Opening => Progress::Waiting,
-        Stage::Open => {
+        Stage::Unopened => Progress::Waiting,
+        Stage::Awaiting => Progress::Waiting,
+        Stage::Live => {
             let confirmed = office.confirmed.0;
             let issued = office.issued.0;
             if confirmed == issued {

@@ -4,7 +4,7 @@ use mathlib.Core.Path.{_≡_, refl, sym}
 use mathlib.Core.Bool.{Bool, true, false, cond}
 use lib.Dec.{eqb}
 use borrow.Author.Tests.{eqb-true, eq-eqb}
-use Rattle.session.specs.Demand3.{answer-of, encoded}
+use Rattle.session.specs.Calls.{answer-of, encoded}
 use Rattle.session.specs.Turn.{Turn}
 
 pub record Alike {A B : Type 0} (R : A → B → Type 0) (t : Turn A) (u : Turn B) : Type 0 where

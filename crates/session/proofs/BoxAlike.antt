@@ -20,7 +20,7 @@ use Rattle.order.proofs.Laws.{obeys}
 use Rattle.session.specs.declared.Cab.{Cab}
 use Rattle.session.proofs.Alike.{Alike, cond-both, same-test, eqb-sym}
 use Rattle.session.specs.Box.{cab-of, started, welcomed, acknowledged, opened-again, opened, sent, obeyed, ordered-here, ordered, received, frame-in}
-use Rattle.session.specs.Demand3.{BoxHistory, restarted, with-taken, updated, rule-open, rule-order, rule-box-frame}
+use Rattle.session.specs.History.{BoxHistory, restarted, with-taken, updated, rule-open, rule-order, rule-box-frame}
 use Rattle.session.proofs.Tools.{updated-same, length-one-more}
 use Rattle.session.specs.Turn.{Turn, wrote, silent, refused, refused-by}
 

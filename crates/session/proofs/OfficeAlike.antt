@@ -13,7 +13,7 @@ use borrow.Author.Tests.{eqb-true, eqb-false, leb-true, leb-false, ltb-true}
 use Rattle.base.proofs.Tests.{cond-cases}
 use Rattle.settings.specs.declared.settings.Settings.{Settings}
 use Rattle.settings.specs.Settings.{fresh}
-use Rattle.frame.specs.Frame.{Change, command, raise, lower, Frame, opening, welcome, order, ack, refuse}
+use Rattle.frame.specs.Frame.{Change, too-long, Frame, opening, welcome, order, ack, refuse}
 use Rattle.link.specs.Encoding.{decode}
 use Rattle.frame.proofs.Laws.{asked-change-of}
 use Rattle.frame.specs.View.{asked}
@@ -22,9 +22,9 @@ use Rattle.order.specs.Apply.{apply}
 use Rattle.session.specs.declared.Office.{Office}
 use Rattle.session.specs.declared.Order.{Order}
 use Rattle.session.specs.declared.Stage.{Stage}
-use Rattle.session.specs.declared.Stage.the-variants.{Never, Opening, Open, Ended}
+use Rattle.session.specs.declared.Stage.the-variants.{Unopened, Awaiting, Live, Ended}
 use Rattle.session.proofs.Alike.{Alike, cond-both, eqb-sym}
-use Rattle.session.specs.Demand3.{Standing, unopened, awaiting, live, over, BoxHistory, History, first-history, updated, orders, with-opening, with-issued, with-settings, with-confirmed, oversized, sent-again, if-own, rule-opening, rule-issue, rule-resend, rule-reopen, rule-welcome, rule-ack, rule-refuse, rule-office-frame, word-at, word}
+use Rattle.session.specs.History.{Standing, unopened, awaiting, live, over, BoxHistory, History, first-history, updated, orders, with-opening, with-issued, with-settings, with-confirmed, sent-again, if-own, rule-opening, rule-issue, rule-resend, rule-reopen, rule-welcome, rule-ack, rule-refuse, rule-office-frame, word-at, word}
 use Rattle.session.specs.Office.{
   order-of,
   no-order,
@@ -32,7 +32,6 @@ use Rattle.session.specs.Office.{
   office-of,
   never,
   open-session,
-  too-long,
   with-order,
   issue,
   kept-change,
@@ -77,9 +76,9 @@ holds-more l c window confirmed eight holds room i from to = by-cases (eqb i (le
 -- ---- the office beside the history
 
 abbrev pub stage-of : Standing → Stage
-stage-of unopened = Never
-stage-of awaiting = Opening
-stage-of live = Open
+stage-of unopened = Unopened
+stage-of awaiting = Awaiting
+stage-of live = Live
 stage-of over = Ended
 
 abbrev pub office-with : History → List Order → Office
@@ -124,11 +123,11 @@ first-alike =
 
 -- ---- opening
 
-begun : (h : History) (s : ℕ) → OfficeAlike (h .box) (office-of Opening s fresh 0 0 empty-window) (with-opening h s)
+begun : (h : History) (s : ℕ) → OfficeAlike (h .box) (office-of Awaiting s fresh 0 0 empty-window) (with-opening h s)
 begun h s =
     let empty : updated (h .issued) s [] s ≡ [] = updated-same (h .issued) s [] in
     let count : length (updated (h .issued) s [] s) ≡ 0 = ap length empty in
-    subst (λ (n : ℕ). OfficeAlike (h .box) (office-of Opening s fresh n 0 empty-window) (with-opening h s)) count
+    subst (λ (n : ℕ). OfficeAlike (h .box) (office-of Awaiting s fresh n 0 empty-window) (with-opening h s)) count
     (backed (record {
       eight = refl;
       holds = λ i _ inside. absurd (not-suc-le-zero (rw count at inside));
@@ -146,11 +145,6 @@ opening-alike _ _ _ (backed {h} b) s room =
 
 -- ---- issuing
 
-same-size-test : (c : Change) → too-long c ≡ oversized c
-same-size-test (command k d) = refl
-same-size-test (raise n) = refl
-same-size-test (lower n) = refl
-
 -- one office's part of a history, with the standing told apart
 module _ (issued : ℕ → List Change) (box : BoxHistory) (s : ℕ) (σ : Settings) (confirmed : ℕ) (window : List Order) where
   abbrev history : Standing → History
@@ -166,7 +160,7 @@ module _ (issued : ℕ → List Change) (box : BoxHistory) (s : ℕ) (σ : Setti
       let here : updated issued s (l ++ (c ∷ [])) s ≡ l ++ (c ∷ []) = updated-same issued s (l ++ (c ∷ [])) in
       let count : length (updated issued s (l ++ (c ∷ [])) s) ≡ length l + 1 = ap length here ∙ length-one-more l c in
       let after = set window (length l % 8) (order-of (length l + 1) c) in
-      subst (λ (n : ℕ). OfficeAlike box (office-of Open s (apply σ c) n confirmed after) (with-issued (history live) c)) count
+      subst (λ (n : ℕ). OfficeAlike box (office-of Live s (apply σ c) n confirmed after) (with-issued (history live) c)) count
       (backed (record {
         eight = length-set window (length l % 8) (order-of (length l + 1) c) ∙ b .eight;
         holds = rw here (holds-more l c window confirmed (b .eight) (b .holds) room);
@@ -182,10 +176,10 @@ module _ (issued : ℕ → List Change) (box : BoxHistory) (s : ℕ) (σ : Setti
   issue-at over b c room = answered-alike (backed b)
   issue-at live b c room =
       cond-both (TurnAlike box) (ltb room frame-limit) _ _ _ _ (λ _. answered-alike (backed b))
-      (λ _. rw (same-size-test c) (cond-both (TurnAlike box) (oversized c) _ _ _ _ (λ _. answered-alike (backed b))
+      (λ _. cond-both (TurnAlike box) (too-long c) _ _ _ _ (λ _. answered-alike (backed b))
       (λ _. cond-both (TurnAlike box) (eqb (length (issued s)) 65535) _ _ _ _ (λ _. answered-alike (backed b))
       (λ _. cond-both (TurnAlike box) (leb 8 (length (issued s) - confirmed)) _ _ _ _ (λ _. answered-alike (backed b))
-      (λ few. answered-alike (issued-alike c b (omega (arith, leb-false 8 (length (issued s) - confirmed) few))))))))
+      (λ few. answered-alike (issued-alike c b (omega (arith, leb-false 8 (length (issued s) - confirmed) few)))))))
 
   -- ---- sending again
 
@@ -236,11 +230,11 @@ module _ (issued : ℕ → List Change) (box : BoxHistory) (s : ℕ) (σ : Setti
 
   -- ---- frames in
 
-  with-welcome : (τ : Settings) → Backed window (history awaiting) → OfficeAlike box (office-of Open s τ 0 0 window) (with-settings (history awaiting) τ)
+  with-welcome : (τ : Settings) → Backed window (history awaiting) → OfficeAlike box (office-of Live s τ 0 0 window) (with-settings (history awaiting) τ)
   with-welcome τ b =
       let nothing : (length (issued s) ≡ 0) × (confirmed ≡ 0) = b .none-yet refl in
-      subst (λ (n : ℕ). OfficeAlike box (office-of Open s τ n 0 window) (with-settings (history awaiting) τ)) (nothing .0)
-      (subst (λ (a : ℕ). OfficeAlike box (office-of Open s τ (length (issued s)) a window) (with-settings (history awaiting) τ)) (nothing .1)
+      subst (λ (n : ℕ). OfficeAlike box (office-of Live s τ n 0 window) (with-settings (history awaiting) τ)) (nothing .0)
+      (subst (λ (a : ℕ). OfficeAlike box (office-of Live s τ (length (issued s)) a window) (with-settings (history awaiting) τ)) (nothing .1)
       (backed (record {
         eight = b .eight;
         holds = b .holds;
@@ -257,10 +251,10 @@ module _ (issued : ℕ → List Change) (box : BoxHistory) (s : ℕ) (σ : Setti
   welcome-at over b t τ = cond-cases (OfficeAlike box (office over)) (eqb s t) _ _ (λ _. backed b) (λ _. backed b)
   welcome-at awaiting b t τ =
       rw (eqb-sym t s) (cond-both (OfficeAlike box) (eqb s t) _ _ _ _
-      (λ e. subst (λ (x : ℕ). OfficeAlike box (office-of Open x τ 0 0 window) (with-settings (history awaiting) τ)) (eqb-true s t e) (with-welcome τ b))
+      (λ e. subst (λ (x : ℕ). OfficeAlike box (office-of Live x τ 0 0 window) (with-settings (history awaiting) τ)) (eqb-true s t e) (with-welcome τ b))
       (λ _. backed b))
 
-  with-news : (k : ℕ) → Backed window (history live) → confirmed < k → k ≤ length (issued s) → OfficeAlike box (office-of Open s σ (length (issued s)) k window) (with-confirmed (history live) k)
+  with-news : (k : ℕ) → Backed window (history live) → confirmed < k → k ≤ length (issued s) → OfficeAlike box (office-of Live s σ (length (issued s)) k window) (with-confirmed (history live) k)
   with-news k b above within =
       backed {h = with-confirmed (history live) k} (record {
         eight = b .eight;
@@ -279,7 +273,7 @@ module _ (issued : ℕ → List Change) (box : BoxHistory) (s : ℕ) (σ : Setti
       rw (eqb-sym t s) (cond-both (OfficeAlike box) (eqb s t) _ _ _ _
       (λ e. cond-both (OfficeAlike box) (ltb confirmed k) _ _ _ _
       (λ above. cond-both (OfficeAlike box) (leb k (length (issued s))) _ _ _ _
-      (λ within. subst (λ (x : ℕ). OfficeAlike box (office-of Open x σ (length (issued s)) k window) (with-confirmed (history live) k)) (eqb-true s t e)
+      (λ within. subst (λ (x : ℕ). OfficeAlike box (office-of Live x σ (length (issued s)) k window) (with-confirmed (history live) k)) (eqb-true s t e)
       (with-news k b (ltb-true confirmed k above) (leb-true k (length (issued s)) within)))
       (λ _. backed b))
       (λ _. backed b))

@@ -5,13 +5,14 @@ use mathlib.Core.List.{List}
 use mathlib.Core.Option.{Option, none, some}
 use lib.Dec.{eqb, leb, ltb}
 use Rattle.base.proofs.Tests.{cond-cases}
-use Rattle.frame.specs.Frame.{Change, Frame, opening, welcome, order, ack, refuse}
+use Rattle.frame.specs.Frame.{too-long, Change, Frame, opening, welcome, order, ack, refuse}
 use Rattle.link.specs.Encoding.{decode}
 use Rattle.link.specs.View.{frame-limit}
 use Rattle.session.specs.declared.Cab.{Cab}
 use Rattle.session.specs.declared.Office.{Office}
 use Rattle.session.specs.Box.{opened-again, opened, ordered-here, ordered, received, frame-in}
-use Rattle.session.specs.Demand3.{Call, restart, box-frame, open-session, issue, resend, reopen, office-frame, Ends, at-cab, at-office, ends-rules}
+use Rattle.session.specs.Calls.{Call, restart, box-frame, open-session, issue, resend, reopen, office-frame, at-cab, at-office, ends-rules}
+use Rattle.session.specs.declared.Ends.{Ends}
 use Rattle.session.specs.Office as office
 use Rattle.session.specs.Turn.{Turn, refused, refused-by}
 
@@ -70,9 +71,9 @@ open-keeps o s room =
 issue-keeps : (o : Office) (change : Change) (room : ℕ) → Keeps o (office.issue o change room)
 unfolding office.issue
 issue-keeps o change room =
-    cond-cases (Keeps o) (office.is-open (o .stage)) _ _
+    cond-cases (Keeps o) (office.is-live (o .stage)) _ _
     (λ _. cond-cases (Keeps o) (ltb room frame-limit) _ _ (λ _. refuses)
-    (λ _. cond-cases (Keeps o) (office.too-long change) _ _ (λ _. refuses)
+    (λ _. cond-cases (Keeps o) (too-long change) _ _ (λ _. refuses)
     (λ _. cond-cases (Keeps o) (eqb (o .issued .0) 65535) _ _ (λ _. refuses)
     (λ _. cond-cases (Keeps o) (leb 8 (o .issued .0 - o .confirmed .0)) _ _ (λ _. refuses) (λ _. accepts)))))
     (λ _. refuses)
@@ -80,7 +81,7 @@ issue-keeps o change room =
 resend-keeps : (o : Office) (n room : ℕ) → Keeps o (office.resend o n room)
 unfolding office.resend
 resend-keeps o n room =
-    cond-cases (Keeps o) (office.is-open (o .stage)) _ _
+    cond-cases (Keeps o) (office.is-live (o .stage)) _ _
     (λ _. cond-cases (Keeps o) (ltb (o .confirmed .0) n) _ _
     (λ _. cond-cases (Keeps o) (leb n (o .issued .0)) _ _
     (λ _. cond-cases (Keeps o) (ltb room frame-limit) _ _ (λ _. refuses) (λ _. accepts)) (λ _. refuses)) (λ _. refuses))
@@ -89,7 +90,7 @@ resend-keeps o n room =
 reopen-keeps : (o : Office) (room : ℕ) → Keeps o (office.reopen o room)
 unfolding office.reopen
 reopen-keeps o room =
-    cond-cases (Keeps o) (office.is-opening (o .stage)) _ _
+    cond-cases (Keeps o) (office.is-awaiting (o .stage)) _ _
     (λ _. cond-cases (Keeps o) (ltb room frame-limit) _ _ (λ _. refuses) (λ _. accepts)) (λ _. refuses)
 
 office-keeps : (o : Office) (m : Option Frame) → Keeps o (office.received o m)

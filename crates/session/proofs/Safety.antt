@@ -13,7 +13,7 @@ use Rattle.base.proofs.Tests.{cond-cases}
 use Rattle.settings.specs.declared.settings.Settings.{Settings}
 use Rattle.registers.specs.Block.{Held}
 use Rattle.registers.proofs.BlockTheorems.{fresh-held}
-use Rattle.frame.specs.Frame.{Change, command, raise, lower, Frame, opening, welcome, order, ack, refuse}
+use Rattle.frame.specs.Frame.{too-long, Change, command, raise, lower, Frame, opening, welcome, order, ack, refuse}
 use Rattle.link.specs.Encoding.{encode}
 use Rattle.frame.specs.Frame.{ValidChange, valid-command, valid-raise, valid-lower}
 use Rattle.link.specs.Encoding.{Valid, valid-opening, valid-welcome, valid-order, valid-ack, valid-refuse}
@@ -21,13 +21,14 @@ use Rattle.link.specs.View.{frame-limit}
 use Rattle.order.specs.Apply.{apply}
 use Rattle.order.proofs.Keeps.{apply-held}
 use Rattle.session.specs.Turn.{Turn, wrote, refused-by}
-use Rattle.session.specs.Demand3.{Call, restart, box-frame, open-session, issue, resend, reopen, office-frame, answer-of, encoded}
-use Rattle.session.specs.Demand3.{Log, first-log, with-frame, with-name, session-or-0, logged-box, logged-office, logged, Permitted}
-use Rattle.session.specs.Demand3.{FitsChange, Fits, Standing, unopened, awaiting, live, over, BoxHistory, OfficeHistory}
-use Rattle.session.specs.Demand3.{History, first-history, updated, orders, rules}
-use Rattle.session.specs.Demand3.{restarted, with-session, with-taken, names, rule-open, rule-order, rule-box-frame, at-box}
-use Rattle.session.specs.Demand3.{with-opening, with-issued, ended, oversized, unanswered, rule-opening, rule-issue, sent-again}
-use Rattle.session.specs.Demand3.{rule-resend, rule-reopen, rule-welcome, rule-ack, rule-refuse, rule-office-frame}
+use Rattle.session.specs.Calls.{Call, restart, box-frame, open-session, issue, resend, reopen, office-frame, answer-of, encoded}
+use Rattle.session.specs.Calls.{Log, first-log, with-frame, with-name, session-or-0, logged-box, logged-office, logged, Permitted}
+use Rattle.session.specs.Calls.{FitsChange, Fits}
+use Rattle.session.specs.History.{Standing, unopened, awaiting, live, over, BoxHistory, OfficeHistory}
+use Rattle.session.specs.History.{History, first-history, updated, orders, rules}
+use Rattle.session.specs.History.{restarted, with-session, with-taken, names, rule-open, rule-order, rule-box-frame, at-box}
+use Rattle.session.specs.History.{with-opening, with-issued, ended, unanswered, rule-opening, rule-issue, sent-again}
+use Rattle.session.specs.History.{rule-resend, rule-reopen, rule-welcome, rule-ack, rule-refuse, rule-office-frame}
 use Rattle.session.proofs.Tools.{updated-same, updated-other, updated-each, updated-by-own}
 use Rattle.session.proofs.Tools.{getElem?-below, getElem?-append, getElem?-last, getElem?-each, length-one-more}
 use Rattle.session.proofs.Tools.{Prefix, prefix-length, prefix-append, prefix-next, prefix-whole, EachDecodes, decodes-weaker, decodes-one-more}
@@ -325,7 +326,7 @@ abbrev OpeningTurnSafe : Log → ℕ → Turn History → Type 0
 OpeningTurnSafe l s t =
     (t .refusal ≡ none → List·Memᴰ s (l .named) → ⊥) → Safe (t .state) (logged-office l (answer-of t) (with-name (t .refusal) s (l .named)))
 
-fitting-valid : (c : Change) → FitsChange c → oversized c ≡ false → ValidChange c
+fitting-valid : (c : Change) → FitsChange c → too-long c ≡ false → ValidChange c
 fitting-valid (command k d) (byte, bytes) short = valid-command byte (ltb-false _ _ short) bytes
 fitting-valid (raise n) fits _ = valid-raise fits
 fitting-valid (lower n) fits _ = valid-lower fits
@@ -409,7 +410,7 @@ module _ (h : History) (l : Log) (safe : Safe h l) where
   issue-safe awaiting _ _ c room fits = safe
   issue-safe live is-live known c room fits =
       cond-cases (OfficeTurnSafe l) (ltb room frame-limit) _ _ (λ _. safe)
-      (λ _. cond-cases (OfficeTurnSafe l) (oversized c) _ _ (λ _. safe)
+      (λ _. cond-cases (OfficeTurnSafe l) (too-long c) _ _ (λ _. safe)
       (λ short. cond-cases (OfficeTurnSafe l) (eqb (length (orders h)) 65535) _ _ (λ _. safe)
       (λ below. cond-cases (OfficeTurnSafe l) (leb 8 (length (orders h) - h .office .confirmed)) _ _ (λ _. safe)
       (λ _. issued-safe c (fitting-valid c fits short) (omega (arith, eqb-false (length (orders h)) 65535 below, safe .sessions (h .office .session) .counted)) is-live known))))

@@ -17,7 +17,10 @@ use Rattle.session.specs.declared.Office.{Office}
 use Rattle.session.specs.declared.Progress.the-variants.{Settled, Waiting}
 use Rattle.session.proofs.Alike.{Alike, same-answer}
 use Rattle.session.proofs.BoxAlike.{CabAlike, closed, active, restart-alike, box-alike}
-use Rattle.session.specs.Demand3.{Call, restart, box-frame, open-session, issue, resend, reopen, office-frame, answer-of, state-after, answers, Ends, first-ends, at-cab, at-office, ends-rules, cab-session, Log, first-log, logged, Permitted, AllowedFrom, Allowed, BoxHistory, Standing, unopened, awaiting, live, over, History, first-history, orders, at-box, rules, word-at, Compared, Claim}
+use Rattle.session.specs.Calls.{Call, restart, box-frame, open-session, issue, resend, reopen, office-frame, answer-of, state-after, answers, first-ends, at-cab, at-office, ends-rules, cab-session, Log, first-log, logged, Permitted, AllowedFrom, Allowed}
+use Rattle.session.specs.Claim.{Compared, Claim}
+use Rattle.session.specs.History.{BoxHistory, Standing, unopened, awaiting, live, over, History, first-history, orders, at-box, rules, word-at}
+use Rattle.session.specs.declared.Ends.{Ends}
 use Rattle.session.proofs.OfficeAlike.{OfficeAlike, backed, first-alike, opening-alike, issue-alike, resend-alike, reopen-alike, frame-alike, same-word, same-box, other-box}
 use Rattle.session.proofs.Safety.{Safe, safe-first, safe-step, taken-first, confirmed-at-most-taken, settled-settings}
 use Rattle.session.proofs.Tools.{Decodes}

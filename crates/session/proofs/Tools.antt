@@ -14,7 +14,7 @@ use Rattle.base.proofs.Tests.{cond-cases}
 use Rattle.frame.specs.Frame.{Frame}
 use Rattle.link.specs.Encoding.{Valid, encode, decode}
 use Rattle.link.proofs.FrameTheorems.{decode-exact, encode-bytes}
-use Rattle.session.specs.Demand3.{updated}
+use Rattle.session.specs.History.{updated}
 
 -- ---- a function updated at one number
 

@@ -1,4 +1,6 @@
 pub mod Box
-pub mod Demand3
+pub mod Calls
+pub mod Claim
+pub mod History
 pub mod Office
 pub mod Turn

@@ -3,11 +3,11 @@ use Prim.Native.Nat.{ℕ, _+_, _-_, _%_}
 use mathlib.Core.Bool.{Bool, true, false, cond, _||_}
 use mathlib.Core.List.{List}
 use mathlib.Core.Option.{Option, none, some}
-use lib.ListN.{length, getD, set, replicate}
+use lib.ListN.{getD, set, replicate}
 use lib.Dec.{eqb, leb, ltb}
 use Rattle.settings.specs.declared.settings.Settings.{Settings}
 use Rattle.settings.specs.Settings.{fresh}
-use Rattle.frame.specs.Frame.{data-limit, Change, command, raise, lower, Frame, opening, welcome, order, ack, refuse}
+use Rattle.frame.specs.Frame.{Change, raise, too-long, Frame, opening, welcome, order, ack, refuse}
 use Rattle.link.specs.Encoding.{decode}
 use Rattle.frame.specs.View.{asked, change-of}
 use Rattle.link.specs.View.{frame-limit}
@@ -17,7 +17,7 @@ use Rattle.session.specs.declared.Order.{Order}
 use Rattle.session.specs.declared.Progress.{Progress}
 use Rattle.session.specs.declared.Progress.the-variants.{Settled, Waiting, Over}
 use Rattle.session.specs.declared.Stage.{Stage}
-use Rattle.session.specs.declared.Stage.the-variants.{Never, Opening, Open, Ended}
+use Rattle.session.specs.declared.Stage.the-variants.{Unopened, Awaiting, Live, Ended}
 use Rattle.session.specs.Turn.{Turn, wrote, silent, refused}
 
 -- ---- the office's state
@@ -37,19 +37,19 @@ office-of stage s σ issued confirmed window =
 
 -- an office never opened
 abbrev pub never : Office
-never = office-of Never 0 fresh 0 0 empty-window
+never = office-of Unopened 0 fresh 0 0 empty-window
 
-abbrev pub is-opening : Stage → Bool
-is-opening Never = false
-is-opening Opening = true
-is-opening Open = false
-is-opening Ended = false
+abbrev pub is-awaiting : Stage → Bool
+is-awaiting Unopened = false
+is-awaiting Awaiting = true
+is-awaiting Live = false
+is-awaiting Ended = false
 
-abbrev pub is-open : Stage → Bool
-is-open Never = false
-is-open Opening = false
-is-open Open = true
-is-open Ended = false
+abbrev pub is-live : Stage → Bool
+is-live Unopened = false
+is-live Awaiting = false
+is-live Live = true
+is-live Ended = false
 
 -- ---- opening, with `room` bytes lent for the frame
 
@@ -57,24 +57,19 @@ unfoldable pub open-session : Office → ℕ → ℕ → Turn Office
 open-session o s room =
     cond (eqb s 0) (refused o 6)
     (cond (ltb room frame-limit) (refused o 1)
-    (wrote (office-of Opening s fresh 0 0 empty-window) (opening s)))
+    (wrote (office-of Awaiting s fresh 0 0 empty-window) (opening s)))
 
 -- ---- issuing
-
-abbrev pub too-long : Change → Bool
-too-long (command k d) = ltb data-limit (length d)
-too-long (raise n) = false
-too-long (lower n) = false
 
 -- order n stands at place (n - 1) mod 8 of the window
 abbrev pub with-order : Office → Change → Office
 with-order o change =
-    office-of Open (o .session .0) (apply (o .settings) change) (o .issued .0 + 1) (o .confirmed .0)
+    office-of Live (o .session .0) (apply (o .settings) change) (o .issued .0 + 1) (o .confirmed .0)
     (set (o .window) (o .issued .0 % 8) (order-of (o .issued .0 + 1) change))
 
 unfoldable pub issue : Office → Change → ℕ → Turn Office
 issue o change room =
-    cond (is-open (o .stage))
+    cond (is-live (o .stage))
     (cond (ltb room frame-limit) (refused o 1)
     (cond (too-long change) (refused o 2)
     (cond (eqb (o .issued .0) 65535) (refused o 9)
@@ -90,7 +85,7 @@ kept-change window n = asked (getD window ((n - 1) % 8) no-order .change)
 -- an unanswered order
 unfoldable pub resend : Office → ℕ → ℕ → Turn Office
 resend o n room =
-    cond (is-open (o .stage))
+    cond (is-live (o .stage))
     (cond (ltb (o .confirmed .0) n)
     (cond (leb n (o .issued .0))
     (cond (ltb room frame-limit) (refused o 1)
@@ -101,7 +96,7 @@ resend o n room =
 
 unfoldable pub reopen : Office → ℕ → Turn Office
 reopen o room =
-    cond (is-opening (o .stage))
+    cond (is-awaiting (o .stage))
     (cond (ltb room frame-limit) (refused o 1) (wrote o (opening (o .session .0))))
     (refused o 13)
 
@@ -113,23 +108,23 @@ with-stage o stage = office-of stage (o .session .0) (o .settings) (o .issued .0
 -- WELCOME of its session counts only while opening
 unfoldable pub welcomed : Office → ℕ → Settings → Office
 welcomed o s σ =
-    cond (is-opening (o .stage))
-    (cond (eqb s (o .session .0)) (office-of Open s σ 0 0 (o .window)) o)
+    cond (is-awaiting (o .stage))
+    (cond (eqb s (o .session .0)) (office-of Live s σ 0 0 (o .window)) o)
     o
 
 -- ACK of its session counts only while open, and only as news of orders that were issued
 unfoldable pub acknowledged : Office → ℕ → ℕ → Office
 acknowledged o s k =
-    cond (is-open (o .stage))
+    cond (is-live (o .stage))
     (cond (eqb s (o .session .0))
     (cond (ltb (o .confirmed .0) k)
-    (cond (leb k (o .issued .0)) (office-of Open s (o .settings) (o .issued .0) k (o .window))
+    (cond (leb k (o .issued .0)) (office-of Live s (o .settings) (o .issued .0) k (o .window))
     o) o) o) o
 
 -- REFUSE 5 or 6 of its session ends it
 unfoldable pub ended : Office → ℕ → ℕ → Office
 ended o s r =
-    cond (is-opening (o .stage) || is-open (o .stage))
+    cond (is-awaiting (o .stage) || is-live (o .stage))
     (cond (eqb s (o .session .0))
     (cond (eqb r 5 || eqb r 6) (with-stage o Ended)
     o) o) o
@@ -149,9 +144,9 @@ frame-in o bytes = received o (decode bytes)
 -- ---- the word
 
 abbrev pub progress-at : Stage → Office → Progress
-progress-at Never o = Waiting
-progress-at Opening o = Waiting
-progress-at Open o = cond (eqb (o .confirmed .0) (o .issued .0)) Settled Waiting
+progress-at Unopened o = Waiting
+progress-at Awaiting o = Waiting
+progress-at Live o = cond (eqb (o .confirmed .0) (o .issued .0)) Settled Waiting
 progress-at Ended o = Over
 
 abbrev pub progress : Office → Progress

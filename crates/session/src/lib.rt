@@ -13,10 +13,11 @@ pub struct Cab {
     pub taken: OrderNumber,
 }
 
+// Where the office stands with its session. In document 01's words: never opened, opening, open, over.
 pub enum Stage {
-    Never,
-    Opening,
-    Open,
+    Unopened,
+    Awaiting,
+    Live,
     Ended,
 }
 
@@ -40,4 +41,10 @@ pub enum Progress {
     Settled,
     Waiting,
     Over,
+}
+
+// Both ends of the link.
+pub struct Ends {
+    pub cab: Cab,
+    pub office: Office,
 }

@@ -62,12 +62,12 @@ fn show_office(office: Office) {
     show_word(office);
     let stage = office.stage;
     match stage {
-        Stage::Never => print::end_line(),
-        Stage::Opening => {
+        Stage::Unopened => print::end_line(),
+        Stage::Awaiting => {
             show_counts(office);
             print::end_line();
         }
-        Stage::Open => {
+        Stage::Live => {
             show_counts(office);
             show_settings(office.settings);
             print::end_line();

@@ -12,8 +12,8 @@ use borrow.Author.Needs.{needs}
 use Rattle.office.proofs.issue.Statement.{statement}
 use Rattle.office.proofs.issue.Tie as tie
 
-is-open-requires : tie.Need-is-open-requires
-is-open-requires c κs = search needs
+is-live-requires : tie.Need-is-live-requires
+is-live-requires c κs = search needs
 
 refused-requires : tie.Need-refused-requires
 refused-requires c κs = search needs
@@ -23,7 +23,7 @@ unfolding issue
 returns c =
     let a = c .before .before .before .before .before .args in
     gives-refusal (issue (a .office) (asked-as (a .ask) (a .bytes .now)) (length (a .out .now))) (a .office) OfficeNotOpen (c .refused .result) (a .out .now)
-    (simp (sym (c .before .before .is-open .ensures) ∙ not-true (c .before .before .is-open .result) (c .before .if1 .taken)))
+    (simp (sym (c .before .before .is-live .ensures) ∙ not-true (c .before .before .is-live .result) (c .before .if1 .taken)))
     (c .refused .ensures)
 
 refused-requires-2 : tie.Need-refused-requires-2
@@ -34,7 +34,7 @@ unfolding issue
 returns-2 c =
     let a = c .before .before .before .before .before .before .args in
     gives-refusal (issue (a .office) (asked-as (a .ask) (a .bytes .now)) (length (a .out .now))) (a .office) OutputTooShort (c .refused2 .result) (a .out .now)
-    (simp (sym (c .before .before .before .is-open .ensures) ∙ not-false (c .before .before .before .is-open .result) (c .before .before .if1 .left), lt-ltb _ _ (c .before .if2 .taken)))
+    (simp (sym (c .before .before .before .is-live .ensures) ∙ not-false (c .before .before .before .is-live .result) (c .before .before .if1 .left), lt-ltb _ _ (c .before .if2 .taken)))
     (c .refused2 .ensures)
 
 too-long-requires : tie.Need-too-long-requires
@@ -48,7 +48,7 @@ unfolding issue
 returns-3 c =
     let a = c .before .before .before .before .before .before .before .before .args in
     gives-refusal (issue (a .office) (asked-as (a .ask) (a .bytes .now)) (length (a .out .now))) (a .office) DataTooLong (c .refused3 .result) (a .out .now)
-    (simp (sym (c .before .before .before .before .before .is-open .ensures) ∙ not-false (c .before .before .before .before .before .is-open .result) (c .before .before .before .before .if1 .left), le-ltb _ _ (c .before .before .before .if2 .left), sym (c .before .before .too-long .ensures) ∙ c .before .if3 .taken))
+    (simp (sym (c .before .before .before .before .before .is-live .ensures) ∙ not-false (c .before .before .before .before .before .is-live .result) (c .before .before .before .before .if1 .left), le-ltb _ _ (c .before .before .before .if2 .left), sym (c .before .before .too-long .ensures) ∙ c .before .if3 .taken))
     (c .refused3 .ensures)
 
 refused-requires-4 : tie.Need-refused-requires-4
@@ -59,7 +59,7 @@ unfolding issue
 returns-4 c =
     let a = c .before .before .before .before .before .before .before .before .before .args in
     gives-refusal (issue (a .office) (asked-as (a .ask) (a .bytes .now)) (length (a .out .now))) (a .office) OrderNumbersExhausted (c .refused4 .result) (a .out .now)
-    (simp (sym (c .before .before .before .before .before .before .is-open .ensures) ∙ not-false (c .before .before .before .before .before .before .is-open .result) (c .before .before .before .before .before .if1 .left), le-ltb _ _ (c .before .before .before .before .if2 .left), sym (c .before .before .before .too-long .ensures) ∙ c .before .before .if3 .left, eq-eqb _ _ (c .before .if4 .taken)))
+    (simp (sym (c .before .before .before .before .before .before .is-live .ensures) ∙ not-false (c .before .before .before .before .before .before .is-live .result) (c .before .before .before .before .before .if1 .left), le-ltb _ _ (c .before .before .before .before .if2 .left), sym (c .before .before .before .too-long .ensures) ∙ c .before .before .if3 .left, eq-eqb _ _ (c .before .if4 .taken)))
     (c .refused4 .ensures)
 
 unanswered-requires : tie.Need-unanswered-requires
@@ -73,7 +73,7 @@ unfolding issue
 returns-5 c =
     let a = c .before .before .before .before .before .before .before .before .before .before .before .args in
     gives-refusal (issue (a .office) (asked-as (a .ask) (a .bytes .now)) (length (a .out .now))) (a .office) WindowFull (c .refused5 .result) (a .out .now)
-    (simp (sym (c .before .before .before .before .before .before .before .before .is-open .ensures) ∙ not-false (c .before .before .before .before .before .before .before .before .is-open .result) (c .before .before .before .before .before .before .before .if1 .left), le-ltb _ _ (c .before .before .before .before .before .before .if2 .left), sym (c .before .before .before .before .before .too-long .ensures) ∙ c .before .before .before .before .if3 .left, ne-eqb _ _ (c .before .before .before .if4 .left), le-leb _ _ (rw (c .before .before .unanswered .ensures) at (c .before .if5 .taken))))
+    (simp (sym (c .before .before .before .before .before .before .before .before .is-live .ensures) ∙ not-false (c .before .before .before .before .before .before .before .before .is-live .result) (c .before .before .before .before .before .before .before .if1 .left), le-ltb _ _ (c .before .before .before .before .before .before .if2 .left), sym (c .before .before .before .before .before .too-long .ensures) ∙ c .before .before .before .before .if3 .left, ne-eqb _ _ (c .before .before .before .if4 .left), le-leb _ _ (rw (c .before .before .unanswered .ensures) at (c .before .if5 .taken))))
     (c .refused5 .ensures)
 
 change-requires : tie.Need-change-requires
@@ -92,7 +92,7 @@ returns-6 c =
     gives-equal _ _ (c .before .before .issue-change .result) _ _
     (ap (λ (d : Change). wrote (with-order (a .office) d) (order (a .office .session .0) (a .office .issued .0 + 1) d)) change-is
     ∙ sym (issued-whole (a .office) (asked-as (a .ask) (a .bytes .now)) (length (a .out .now))
-    (sym (c .before .before .before .before .before .before .before .before .before .before .before .before .is-open .ensures) ∙ not-false (c .before .before .before .before .before .before .before .before .before .before .before .before .is-open .result) (c .before .before .before .before .before .before .before .before .before .before .before .if1 .left))
+    (sym (c .before .before .before .before .before .before .before .before .before .before .before .before .is-live .ensures) ∙ not-false (c .before .before .before .before .before .before .before .before .before .before .before .before .is-live .result) (c .before .before .before .before .before .before .before .before .before .before .before .if1 .left))
     (c .before .before .before .before .before .before .before .before .before .before .if2 .left)
     (sym (c .before .before .before .before .before .before .before .before .before .too-long .ensures) ∙ c .before .before .before .before .before .before .before .before .if3 .left)
     (c .before .before .before .before .before .before .before .if4 .left)
@@ -103,7 +103,7 @@ pub issue-spec : {M : Type 1} → statement M
 issue-spec =
     tie.close
     (tie.spec
-    is-open-requires
+    is-live-requires
     refused-requires
     returns
     refused-requires-2

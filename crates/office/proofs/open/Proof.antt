@@ -5,7 +5,7 @@ use Rattle.base.specs.declared.refusal.Refusal.the-variants.{OutputTooShort, Wr
 use Rattle.frame.specs.Frame.{opening}
 use Rattle.frame.specs.View.{meaning}
 use Rattle.session.specs.Office.{office-of, open-session, empty-window}
-use Rattle.session.specs.declared.Stage.the-variants.{Opening}
+use Rattle.session.specs.declared.Stage.the-variants.{Awaiting}
 use Rattle.settings.specs.Settings.{fresh}
 use Rattle.office.proofs.Turns.{gives-refusal, gives-frame}
 use borrow.Author.Needs.{needs}
@@ -46,7 +46,7 @@ returns-3 : tie.Need-returns-3
 unfolding open-session
 returns-3 c =
     let a = c .before .before .before .before .before .before .before .before .before .before .args in
-    gives-frame _ (office-of Opening (a .session .0) fresh 0 0 empty-window) (opening (a .session .0)) _ _ (c .before .before .wrote .result) _ _
+    gives-frame _ (office-of Awaiting (a .session .0) fresh 0 0 empty-window) (opening (a .session .0)) _ _ (c .before .before .wrote .result) _ _
     (simp (ne-eqb _ _ (c .before .before .before .before .before .before .before .if1 .left), le-ltb _ _ (c .before .before .before .before .before .before .if2 .left)))
     (c .before .before .before .before .before .at-start .ensures)
     (ap meaning (c .before .before .before .before .opening .ensures))

@@ -10,8 +10,8 @@ use borrow.Author.Needs.{needs}
 use Rattle.office.proofs.reopen.Statement.{statement}
 use Rattle.office.proofs.reopen.Tie as tie
 
-is-opening-requires : tie.Need-is-opening-requires
-is-opening-requires c κs = search needs
+is-awaiting-requires : tie.Need-is-awaiting-requires
+is-awaiting-requires c κs = search needs
 
 refused-requires : tie.Need-refused-requires
 refused-requires c κs = search needs
@@ -21,7 +21,7 @@ unfolding reopen
 returns c =
     let a = c .before .before .before .before .args in
     gives-refusal (reopen (a .office) (length (a .out .now))) (a .office) NothingToResend (c .refused .result) (a .out .now)
-    (simp (sym (c .before .before .is-opening .ensures) ∙ not-true (c .before .before .is-opening .result) (c .before .if1 .taken)))
+    (simp (sym (c .before .before .is-awaiting .ensures) ∙ not-true (c .before .before .is-awaiting .result) (c .before .if1 .taken)))
     (c .refused .ensures)
 
 refused-requires-2 : tie.Need-refused-requires-2
@@ -32,7 +32,7 @@ unfolding reopen
 returns-2 c =
     let a = c .before .before .before .before .before .args in
     gives-refusal (reopen (a .office) (length (a .out .now))) (a .office) OutputTooShort (c .refused2 .result) (a .out .now)
-    (simp (sym (c .before .before .before .is-opening .ensures) ∙ not-false (c .before .before .before .is-opening .result) (c .before .before .if1 .left), lt-ltb _ _ (c .before .if2 .taken)))
+    (simp (sym (c .before .before .before .is-awaiting .ensures) ∙ not-false (c .before .before .before .is-awaiting .result) (c .before .before .if1 .left), lt-ltb _ _ (c .before .if2 .taken)))
     (c .refused2 .ensures)
 
 opening-requires : tie.Need-opening-requires
@@ -49,14 +49,14 @@ unfolding reopen
 returns-3 c =
     let a = c .before .before .before .before .before .before .before .before .before .args in
     gives-frame _ (a .office) (opening (a .office .session .0)) _ _ (c .before .before .wrote .result) _ _
-    (simp (sym (c .before .before .before .before .before .before .before .is-opening .ensures) ∙ not-false (c .before .before .before .before .before .before .before .is-opening .result) (c .before .before .before .before .before .before .if1 .left), le-ltb _ _ (c .before .before .before .before .before .if2 .left)))
+    (simp (sym (c .before .before .before .before .before .before .before .is-awaiting .ensures) ∙ not-false (c .before .before .before .before .before .before .before .is-awaiting .result) (c .before .before .before .before .before .before .if1 .left), le-ltb _ _ (c .before .before .before .before .before .if2 .left)))
     refl (ap meaning (c .before .before .before .before .opening .ensures)) (c .before .before .wrote .ensures)
 
 pub reopen-spec : {M : Type 1} → statement M
 reopen-spec =
     tie.close
     (tie.spec
-    is-opening-requires
+    is-awaiting-requires
     refused-requires
     returns
     refused-requires-2

@@ -5,20 +5,20 @@ use borrow.Author.Needs.{needs}
 use Rattle.office.proofs.welcomed.Statement.{statement}
 use Rattle.office.proofs.welcomed.Tie as tie
 
-is-opening-requires : tie.Need-is-opening-requires
-is-opening-requires c κs = search needs
+is-awaiting-requires : tie.Need-is-awaiting-requires
+is-awaiting-requires c κs = search needs
 
 returns : tie.Need-returns
 unfolding welcomed
-returns c = simp (sym (c .before .is-opening .ensures) ∙ not-true (c .before .is-opening .result) (c .if1 .taken))
+returns c = simp (sym (c .before .is-awaiting .ensures) ∙ not-true (c .before .is-awaiting .result) (c .if1 .taken))
 
 returns-2 : tie.Need-returns-2
 unfolding welcomed
-returns-2 c = simp (sym (c .before .before .before .is-opening .ensures) ∙ not-false (c .before .before .before .is-opening .result) (c .before .before .if1 .left), ne-eqb _ _ (c .if2 .taken))
+returns-2 c = simp (sym (c .before .before .before .is-awaiting .ensures) ∙ not-false (c .before .before .before .is-awaiting .result) (c .before .before .if1 .left), ne-eqb _ _ (c .if2 .taken))
 
 returns-3 : tie.Need-returns-3
 unfolding welcomed
-returns-3 c = simp (sym (c .before .before .before .before .is-opening .ensures) ∙ not-false (c .before .before .before .before .is-opening .result) (c .before .before .before .if1 .left), eq-eqb _ _ (c .before .if2 .left))
+returns-3 c = simp (sym (c .before .before .before .before .is-awaiting .ensures) ∙ not-false (c .before .before .before .before .is-awaiting .result) (c .before .before .before .if1 .left), eq-eqb _ _ (c .before .if2 .left))
 
 pub welcomed-spec : {M : Type 1} → statement M
-welcomed-spec = tie.close (tie.spec is-opening-requires returns returns-2 returns-3)
+welcomed-spec = tie.close (tie.spec is-awaiting-requires returns returns-2 returns-3)

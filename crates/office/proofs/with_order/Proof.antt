@@ -5,7 +5,7 @@ use Rattle.frame.specs.View.{asked}
 use Rattle.frame.specs.declared.frame.Change.{Change}
 use Rattle.order.specs.Apply.{apply}
 use Rattle.session.specs.declared.Office.{Office}
-use Rattle.session.specs.declared.Stage.the-variants.{Open}
+use Rattle.session.specs.declared.Stage.the-variants.{Live}
 use Rattle.session.specs.Office.{office-of}
 use borrow.Author.Needs.{needs}
 use Rattle.office.proofs.with_order.Statement.{statement}
@@ -30,7 +30,7 @@ returns : tie.Need-returns
 returns c =
     let a = c .before .before .before .before .before .args in
     let o = a .office in
-    let with-change : Change → Office = λ x. office-of Open (o .session .0) (apply (o .settings) (asked (a .change))) (o .issued .0 + 1) (o .confirmed .0)
+    let with-change : Change → Office = λ x. office-of Live (o .session .0) (apply (o .settings) (asked (a .change))) (o .issued .0 + 1) (o .confirmed .0)
     (set (o .window) (o .issued .0 % 8) (record { number = record { 0 = o .issued .0 + 1 }; change = x })) in
     rw (c .apply .ensures) (ap with-change (c .before .before .before .before .before .pre .1))
 

@@ -1,166 +1,20 @@
--- Demand 3, stated: document 01, "Demand 3's list and book". It is proved in Theorem.antt.
-use Prim.Native.Nat.{ℕ, _+_, _-_, _<_, _≤_, max}
-use mathlib.Core.Path.{_≡_}
+-- The history, fed the calls alone: document 01, "Demand 3's list and book", Book.
+use Prim.Native.Nat.{ℕ, _+_, _-_}
 use mathlib.Core.Bool.{Bool, false, cond, _||_}
-use mathlib.Core.List.{List, [], _∷_, _++_, List·Memᴰ}
+use mathlib.Core.List.{List, [], _∷_, _++_}
 use mathlib.Core.Option.{Option, none, some}
-use lib.ListN.{length, take, getD, getElem?}
+use lib.ListN.{length, getElem?}
 use lib.Dec.{eqb, leb, ltb}
 use Rattle.settings.specs.declared.settings.Settings.{Settings}
 use Rattle.settings.specs.Settings.{fresh}
-use Rattle.registers.specs.Block.{block}
-use Rattle.frame.specs.Frame.{data-limit, Change, command, raise, lower, Frame, opening, welcome, order, ack, refuse}
-use Rattle.link.specs.Encoding.{encode, decode}
+use Rattle.frame.specs.Frame.{Change, too-long, Frame, opening, welcome, order, ack, refuse}
+use Rattle.link.specs.Encoding.{decode}
 use Rattle.link.specs.View.{frame-limit}
 use Rattle.order.specs.Apply.{apply}
-use Rattle.session.specs.declared.Cab.{Cab}
-use Rattle.session.specs.declared.Office.{Office}
 use Rattle.session.specs.declared.Progress.{Progress}
 use Rattle.session.specs.declared.Progress.the-variants.{Settled, Waiting, Over}
+use Rattle.session.specs.Calls.{Call, restart, box-frame, open-session, issue, resend, reopen, office-frame}
 use Rattle.session.specs.Turn.{Turn, wrote, silent, refused, refused-by}
-use Rattle.session.specs.Box as box
-use Rattle.session.specs.Office as office
-
--- ---- the calls. A lent output is told by its length.
-
-pub data Call : Type 0 where
-  -- told this highest session
-  restart : ℕ → Call
-  box-frame : List ℕ → ℕ → Call
-  open-session : ℕ → ℕ → Call
-  issue : Change → ℕ → Call
-  -- an order, by its number, again
-  resend : ℕ → ℕ → Call
-  -- OPEN again
-  reopen : ℕ → Call
-  office-frame : List ℕ → Call
-
--- the refusal's number or none, the bytes of the frame written or none
-pub record Answer : Type 0 where
-  pub refusal : Option ℕ
-  pub bytes : Option (List ℕ)
-
-abbrev pub encoded : Option Frame → Option (List ℕ)
-encoded none = none
-encoded (some f) = some (encode f)
-
-abbrev pub answer-of : {A : Type 0} → Turn A → Answer
-answer-of t = record { refusal = t .refusal; bytes = encoded (t .frame) }
-
--- ---- along a list of calls, by rules that turn a state at each call
-
-abbrev pub state-after : {A : Type 0} → (A → Call → Turn A) → A → List Call → A
-state-after rules a [] = a
-state-after rules a (c ∷ cs) = state-after rules (rules a c .state) cs
-
-abbrev pub answers : {A : Type 0} → (A → Call → Turn A) → A → List Call → List Answer
-answers rules a [] = []
-answers rules a (c ∷ cs) = answer-of (rules a c) ∷ answers rules (rules a c .state) cs
-
--- ---- the two ends: each call is the definition that its contract cites
-
-pub record Ends : Type 0 where
-  pub cab : Cab
-  pub office : Office
-
--- a box at its first start and an office never opened
-abbrev pub first-ends : Ends
-first-ends = record { cab = box.started 0; office = office.never }
-
-abbrev pub at-cab : Ends → Turn Cab → Turn Ends
-at-cab e t = record { state = record { cab = t .state; office = e .office }; refusal = t .refusal; frame = t .frame }
-
-abbrev pub at-office : Ends → Turn Office → Turn Ends
-at-office e t = record { state = record { cab = e .cab; office = t .state }; refusal = t .refusal; frame = t .frame }
-
-abbrev pub ends-rules : Ends → Call → Turn Ends
-ends-rules e (restart told) = at-cab e (silent (box.started told))
-ends-rules e (box-frame bytes room) = at-cab e (box.frame-in (e .cab) bytes room)
-ends-rules e (open-session s room) = at-office e (office.open-session (e .office) s room)
-ends-rules e (issue c room) = at-office e (office.issue (e .office) c room)
-ends-rules e (resend n room) = at-office e (office.resend (e .office) n room)
-ends-rules e (reopen room) = at-office e (office.reopen (e .office) room)
-ends-rules e (office-frame bytes) = at-office e (office.frame-in (e .office) bytes)
-
-abbrev pub cab-session : Cab → Option ℕ
-cab-session c = cond (c .active) (some (c .highest .0)) none
-
--- ---- what a list of calls keeps to
-
--- the frames that each end has written, the sessions that openings named, refused ones aside, and the highest session opened at the box, else 0
-pub record Log : Type 0 where
-  pub from-box : List (List ℕ)
-  pub from-office : List (List ℕ)
-  pub named : List ℕ
-  pub highest : ℕ
-
-abbrev pub first-log : Log
-first-log = record { from-box = []; from-office = []; named = []; highest = 0 }
-
-abbrev pub with-frame : Option (List ℕ) → List (List ℕ) → List (List ℕ)
-with-frame none frames = frames
-with-frame (some bytes) frames = bytes ∷ frames
-
-abbrev pub with-name : Option ℕ → ℕ → List ℕ → List ℕ
-with-name none s named = s ∷ named
-with-name (some refusal) s named = named
-
-abbrev pub session-or-0 : Option ℕ → ℕ
-session-or-0 none = 0
-session-or-0 (some s) = s
-
-abbrev pub logged-box : Log → Answer → Option ℕ → Log
-logged-box l a session =
-    record { from-box = with-frame (a .bytes) (l .from-box); from-office = l .from-office; named = l .named; highest = max (l .highest) (session-or-0 session) }
-
-abbrev pub logged-office : Log → Answer → List ℕ → Log
-logged-office l a named = record { from-box = l .from-box; from-office = with-frame (a .bytes) (l .from-office); named = named; highest = l .highest }
-
--- a call, its answer, and the session open at the box after it
-abbrev pub logged : Log → Call → Answer → Option ℕ → Log
-logged l (restart told) a session = logged-box l a session
-logged l (box-frame bytes room) a session = logged-box l a session
-logged l (open-session s room) a session = logged-office l a (with-name (a .refusal) s (l .named))
-logged l (issue c room) a session = logged-office l a (l .named)
-logged l (resend n room) a session = logged-office l a (l .named)
-logged l (reopen room) a session = logged-office l a (l .named)
-logged l (office-frame bytes) a session = logged-office l a (l .named)
-
--- a frame in was written by the other end, an opening names a new session unless it is refused, and a restart is told the highest session opened at the box
-abbrev pub Permitted : Log → Call → Answer → Type 0
-Permitted l (restart told) a = told ≡ l .highest
-Permitted l (box-frame bytes room) a = List·Memᴰ bytes (l .from-office)
-Permitted l (open-session s room) a = a .refusal ≡ none → List·Memᴰ s (l .named) → ⊥
-Permitted l (issue c room) a = Unit {0}
-Permitted l (resend n room) a = Unit {0}
-Permitted l (reopen room) a = Unit {0}
-Permitted l (office-frame bytes) a = List·Memᴰ bytes (l .from-box)
-
-abbrev pub FitsChange : Change → Type 0
-FitsChange (command k d) = (k < 256) × ((i : ℕ) → getD d i 0 < 256)
-FitsChange (raise n) = n < 65536
-FitsChange (lower n) = n < 65536
-
--- sessions and changes fit the code's types; nothing is asked of other arguments
-abbrev pub Fits : Call → Type 0
-Fits (restart told) = Unit {0}
-Fits (box-frame bytes room) = Unit {0}
-Fits (open-session s room) = s < 4294967296
-Fits (issue c room) = FitsChange c
-Fits (resend n room) = Unit {0}
-Fits (reopen room) = Unit {0}
-Fits (office-frame bytes) = Unit {0}
-
-abbrev pub AllowedFrom : Ends → Log → List Call → Type 0
-AllowedFrom e l [] = Unit {0}
-AllowedFrom e l (c ∷ cs) =
-    let t = ends-rules e c in
-    Fits c × Permitted l c (answer-of t) × AllowedFrom (t .state) (logged l c (answer-of t) (cab-session (t .state .cab))) cs
-
-abbrev pub Allowed : List Call → Type 0
-Allowed cs = AllowedFrom first-ends first-log cs
-
--- ---- the history (01: the book), fed the calls alone
 
 pub record BoxHistory : Type 0 where
   pub highest : ℕ
@@ -279,17 +133,12 @@ rule-opening h s room =
     (cond (ltb room frame-limit) (refused h 1)
     (wrote (with-opening h s) (opening s)))
 
-abbrev pub oversized : Change → Bool
-oversized (command k d) = ltb data-limit (length d)
-oversized (raise n) = false
-oversized (lower n) = false
-
 unfoldable pub rule-issue : Standing → History → Change → ℕ → Turn History
 rule-issue unopened h c room = refused h 10
 rule-issue awaiting h c room = refused h 10
 rule-issue live h c room =
     cond (ltb room frame-limit) (refused h 1)
-    (cond (oversized c) (refused h 2)
+    (cond (too-long c) (refused h 2)
     (cond (eqb (length (orders h)) 65535) (refused h 9)
     (cond (leb 8 (length (orders h) - h .office .confirmed)) (refused h 8)
     (wrote (with-issued h c) (order (h .office .session) (length (orders h) + 1) c)))))
@@ -368,28 +217,3 @@ word-at over h = Over
 
 abbrev pub word : History → Progress
 word h = word-at (h .office .standing) h
-
--- ---- the claim (01: Compared)
-
-pub record Compared (e : Ends) (h : History) : Type 0 where
-  pub box-session : cab-session (e .cab) ≡ h .box .session
-  pub box-highest : e .cab .highest .0 ≡ h .box .highest
-  pub box-settings : e .cab .controller .settings ≡ h .box .settings
-  -- while a session is open
-  pub taken-count : (s : ℕ) → h .box .session ≡ some s → e .cab .taken .0 ≡ length (h .box .taken s)
-  pub first-taken : (s : ℕ) → h .box .session ≡ some s → h .box .taken s ≡ take (e .cab .taken .0) (h .issued s)
-  pub office-word : office.progress (e .office) ≡ word h
-  -- once it has a session
-  pub office-session : (h .office .standing ≡ unopened → ⊥) → e .office .session .0 ≡ h .office .session
-  pub office-confirmed : (h .office .standing ≡ unopened → ⊥) → e .office .confirmed .0 ≡ h .office .confirmed
-  pub issued-count : (h .office .standing ≡ unopened → ⊥) → e .office .issued .0 ≡ length (orders h)
-  -- while it is open
-  pub office-settings : h .office .standing ≡ live → e .office .settings ≡ h .office .settings
-  -- ended or not
-  pub confirmed-taken : e .office .confirmed .0 ≤ length (h .box .taken (e .office .session .0))
-  pub settled-equal : office.progress (e .office) ≡ Settled → cab-session (e .cab) ≡ some (e .office .session .0) →
-      block (e .office .settings) ≡ block (e .cab .controller .settings)
-
-pub record Claim (cs : List Call) : Type 0 where
-  pub same-answers : answers ends-rules first-ends cs ≡ answers rules first-history cs
-  pub compared : Compared (state-after ends-rules first-ends cs) (state-after rules first-history cs)
