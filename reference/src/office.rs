@@ -1,6 +1,7 @@
 //! The office end.
 
 use std::collections::VecDeque;
+use std::fmt;
 
 use crate::controller::Controller;
 use crate::link::{Frame, LONGEST_FRAME, MOST_ORDER_DATA, Order};
@@ -14,6 +15,16 @@ pub enum Word {
     Settled,
     Waiting,
     Over,
+}
+
+impl fmt::Display for Word {
+    fn fmt(&self, f: &mut fmt::Formatter<'_>) -> fmt::Result {
+        f.write_str(match self {
+            Word::Settled => "settled",
+            Word::Waiting => "waiting",
+            Word::Over => "over",
+        })
+    }
 }
 
 /// What the office can tell of its session.

@@ -64,7 +64,7 @@ pub enum Flag {
 
 impl Flag {
     /// Byte of the status, and bit in it.
-    fn place(self) -> (usize, u8) {
+    pub fn place(self) -> (usize, u8) {
         match self {
             Flag::Incomplete => (0, 3),
             Flag::NotAvailable => (0, 2),

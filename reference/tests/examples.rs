@@ -10,7 +10,6 @@ use reference::link::{Frame, Order};
 use reference::office::{Office, Word};
 use reference::packet::{Way, read_reply, write_packet};
 use reference::refusal::Refusal;
-use reference::script::Simulation;
 use reference::settings::{Heater, Settings};
 
 /// Sends the bytes, then 00: the reply comes at once, and nothing after it.
@@ -325,35 +324,4 @@ fn settings_that_no_controller_holds() {
         "minus 0, or another sign"
     );
     assert!((23..27).all(|place| with(place, 0xFF)));
-}
-
-#[test]
-fn script_lines() {
-    let mut simulation = Simulation::new();
-    let long = [b"show #".to_vec(), vec![b'x'; 4091]].concat();
-    for (line, answer) in [
-        (&b""[..], None),
-        (b"   # nothing", None),
-        (b"show\r", Some("line 3: not a call")),
-        (b"room 65 1", Some("line 4: number out of range")),
-        (b"room 64 1", Some("line 5: too many words")),
-        (b"room", Some("line 6: not a number")),
-        (b"to-box 0 x", Some("line 7: no such frame")),
-        (b"to-box 99999999999999999999999", Some("line 8: no such frame")),
-        (b"command", Some("line 9: not bytes")),
-        (b"packet wrote", Some("line 10: not a call")),
-        (b"packet write", Some("line 11: not bytes")),
-        (b"packet read ff", Some("refused 3")),
-        (b"reply write 01", Some("reply 01 data end 1")),
-        (b"reply read", Some("refused 12")),
-        (b"bus", Some("bus")),
-        (b"box", Some("refused 4 14 05 00 00 00 00 00 04")),
-        (&long, Some("line 17: line too long")),
-        (b"restart 4294967296", Some("line 18: number out of range")),
-        (b"restart 4294967295", Some("ok")),
-        (b"open 0", Some("refused 6")),
-    ] {
-        let given = simulation.line(line).map(|answer| answer.to_string());
-        assert_eq!(given.as_deref(), answer, "{}", line.escape_ascii());
-    }
 }

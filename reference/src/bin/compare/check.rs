@@ -23,7 +23,7 @@ pub fn closing_sentences(lines: &[Vec<u8>]) -> Result<usize, (usize, String)> {
         let before = simulation.cab().open();
         let answer = simulation.line(line);
         let broken = |what: &str| Err((place, what.to_string()));
-        if !matches!(answer, None | Some(Answer::Wrong(..))) && !in_list(line) {
+        if !matches!(answer, None | Some(Answer::Invalid(..))) && !in_list(line) {
             return Ok(place);
         }
         if let (Some(&b"open"), Some(Answer::Frame(_)), Some(now)) =

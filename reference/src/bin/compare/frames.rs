@@ -14,6 +14,20 @@ fn field(tag: u8, contents: &[u8]) -> Vec<u8> {
     [&[tag], &length.to_le_bytes()[..], contents].concat()
 }
 
+/// Few bits, the named ones most, so that each of them is met without others.
+fn sparse_status(rng: &mut Rng) -> [u8; 4] {
+    let mut status = [0; 4];
+    for _ in 0..rng.below(4) {
+        let (byte, bit) = if rng.chance(80) {
+            rng.pick(&[(0, 3), (0, 2), (0, 0), (1, 5), (3, 7), (3, 6), (3, 5), (3, 4)])
+        } else {
+            (rng.below(4), rng.below(8))
+        };
+        status[byte] |= 1 << bit;
+    }
+    status
+}
+
 fn settings(rng: &mut Rng) -> Vec<u8> {
     let mut block = rng.bytes(27);
     block[2] = u8::from(!rng.chance(15));
@@ -26,6 +40,9 @@ fn settings(rng: &mut Rng) -> Vec<u8> {
         if block[sign - 2] == 0 && block[sign - 1] == 0 {
             block[sign] = 1;
         }
+    }
+    if rng.chance(70) {
+        block[23..].copy_from_slice(&sparse_status(rng));
     }
     if rng.chance(30) {
         match rng.below(8) {

@@ -154,9 +154,9 @@ fn print_lines(lines: &[Vec<u8>]) {
 
 #[cfg(test)]
 mod tests {
-    use std::collections::BTreeSet;
+    use std::collections::{BTreeMap, BTreeSet};
 
-    use reference::script::{Answer, Simulation};
+    use reference::script::{Answer, ParseError, Simulation};
 
     use super::*;
 
@@ -197,6 +197,87 @@ mod tests {
             for number in numbers {
                 assert!(seen.contains(&(first.to_string(), *number)), "{first} {number}");
             }
+        }
+    }
+
+    #[test]
+    fn every_form_of_a_description_is_met() {
+        let mut lines: BTreeMap<Vec<u8>, usize> = BTreeMap::new();
+        let mut described = BTreeSet::new();
+        let mut statuses = BTreeSet::new();
+        for number in 1..120 {
+            let mut simulation = Simulation::new();
+            for line in generate::script(Rng::new(SEED, number), 3000).lines {
+                if let (b"describe", Some(Answer::State(ends))) = (&line[..], simulation.line(&line)) {
+                    for words in ends {
+                        if let Some((_, status)) = words.split_once(", status ") {
+                            statuses.insert(status.to_string());
+                        }
+                        // Numbers aside, and what is told of the settings.
+                        let form = words.split(": ").next().unwrap_or_default();
+                        let form = form.replace(" 1 order ", " one order ");
+                        described.insert(form.replace(|letter: char| letter.is_ascii_digit(), ""));
+                    }
+                }
+                *lines.entry(line).or_default() += 1;
+            }
+        }
+        let count = |line: &[u8]| lines.get(line).copied().unwrap_or(0);
+        let (shows, describes) = (count(b"show"), count(b"describe"));
+        assert!(
+            describes > shows / 5 * 4 && shows > describes / 5 * 4,
+            "{shows} {describes}"
+        );
+        let forms: Vec<&str> = described.iter().map(String::as_str).collect();
+        assert_eq!(
+            forms,
+            [
+                "box session ,  orders taken",
+                "box session , one order taken",
+                "box with no session open, highest ",
+                "office never opened",
+                "office session , opening",
+                "office session , over,  of  orders confirmed",
+                "office session , settled,  of  orders confirmed",
+                "office session , waiting,  of  orders confirmed",
+            ]
+        );
+        for alone in [
+            "none",
+            "incomplete",
+            "not available",
+            "invalid command",
+            "out of range",
+            "escape seen",
+            "length",
+            "bytes ignored",
+            "checksum",
+            "other bits",
+        ] {
+            assert!(statuses.contains(alone), "{alone}");
+        }
+    }
+
+    #[test]
+    fn rooms_up_to_512_and_beyond_are_met() {
+        let mut rooms = BTreeSet::new();
+        let mut refused = BTreeSet::new();
+        for number in 1..120 {
+            let mut simulation = Simulation::new();
+            for line in generate::script(Rng::new(SEED, number), 3000).lines {
+                let answer = simulation.line(&line);
+                if let Some(Answer::Invalid(_, ParseError::OutOfRange)) = answer {
+                    refused.insert(line);
+                }
+                rooms.insert(simulation.room());
+            }
+        }
+        for room in [0, 36, 37, 64, 65, 256, 511, 512] {
+            assert!(rooms.contains(&room), "{room}");
+        }
+        assert_eq!(rooms.last(), Some(&512));
+        for line in [&b"room 513"[..], b"room 514", b"room 65573"] {
+            assert!(refused.contains(line), "{}", line.escape_ascii());
         }
     }
 

@@ -1,0 +1,76 @@
+//! Frames that no end wrote.
+
+use super::Generator;
+use crate::frames::{self, Aim};
+use crate::lines;
+
+impl Generator {
+    pub(super) fn hostile(&mut self) {
+        let (office, highest, next) = self.sessions();
+        let open = self.simulation.cab().open();
+        let now = self.simulation.office().progress();
+        let taken = open.map_or(0, |open| open.taken);
+        let (confirmed, issued) = now.map_or((0, 0), |now| (now.confirmed, now.issued));
+        let session = open.map_or(highest, |open| open.session);
+        let aim = Aim {
+            sessions: vec![
+                office,
+                office,
+                office,
+                session,
+                session,
+                session,
+                highest,
+                next,
+                office.wrapping_sub(1),
+            ],
+            numbers: vec![
+                taken,
+                taken.saturating_add(1),
+                taken.saturating_add(1),
+                taken.saturating_add(1),
+                taken.saturating_add(2),
+                confirmed,
+                confirmed.saturating_add(1),
+                issued,
+                issued,
+                issued.saturating_add(1),
+            ],
+        };
+        let bytes = match self.rng.weighted(&[50, 25, 10, 13, 2]) {
+            0 => frames::frame(&mut self.rng, &aim),
+            1 => {
+                let frame = frames::frame(&mut self.rng, &aim);
+                frames::damaged(&mut self.rng, frame)
+            }
+            2 => {
+                let length = self.rng.below(45);
+                self.rng.bytes(length)
+            }
+            4 => Vec::new(),
+            _ => {
+                let from_box = self.rng.chance(50);
+                let log = if from_box {
+                    self.simulation.from_cab()
+                } else {
+                    self.simulation.from_office()
+                };
+                let back = self.rng.below(8) as u64;
+                let frame = log
+                    .get(log.written().saturating_sub(back))
+                    .unwrap_or(&[])
+                    .to_vec();
+                if self.rng.chance(70) {
+                    frames::damaged(&mut self.rng, frame)
+                } else {
+                    frame
+                }
+            }
+        };
+        // Most go to the end that could understand them.
+        let for_box = matches!(bytes.first(), Some(0x10 | 0x12));
+        let to_box = if self.rng.chance(85) { for_box } else { !for_box };
+        let line = lines::hex(&mut self.rng, if to_box { "box" } else { "office" }, &bytes);
+        self.emit(line);
+    }
+}

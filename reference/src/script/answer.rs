@@ -1,0 +1,51 @@
+//! Answers, and how they are printed.
+
+use std::fmt;
+
+use super::parse::ParseError;
+use crate::packet::Reply;
+use crate::refusal::Refusal;
+
+#[derive(Clone, Debug, PartialEq, Eq)]
+pub enum Answer {
+    Ok,
+    Frame(Vec<u8>),
+    Refused(Refusal),
+    RefusedFrame(Refusal, Vec<u8>),
+    Bus(Vec<u8>),
+    Packet(Vec<u8>),
+    Reply(Reply),
+    /// What both ends hold: the box's line and the office's.
+    State([String; 2]),
+    /// The line's number, and what is wrong with it.
+    Invalid(u64, ParseError),
+}
+
+/// Bytes as two digits each, a space before every one.
+pub struct Hex<'a>(pub &'a [u8]);
+
+impl fmt::Display for Hex<'_> {
+    fn fmt(&self, f: &mut fmt::Formatter<'_>) -> fmt::Result {
+        self.0.iter().try_for_each(|byte| write!(f, " {byte:02X}"))
+    }
+}
+
+impl fmt::Display for Answer {
+    fn fmt(&self, f: &mut fmt::Formatter<'_>) -> fmt::Result {
+        match self {
+            Answer::Ok => write!(f, "ok"),
+            Answer::Frame(frame) => write!(f, "ok{}", Hex(frame)),
+            Answer::Refused(refusal) => write!(f, "refused {}", refusal.number()),
+            Answer::RefusedFrame(refusal, frame) => {
+                write!(f, "refused {}{}", refusal.number(), Hex(frame))
+            }
+            Answer::Bus(bytes) => write!(f, "bus{}", Hex(bytes)),
+            Answer::Packet(packet) => write!(f, "packet{}", Hex(packet)),
+            Answer::Reply(Reply { response, data, end }) => {
+                write!(f, "reply {response:02X} data{} end {end}", Hex(data))
+            }
+            Answer::State([cab, office]) => write!(f, "{cab}\n{office}"),
+            Answer::Invalid(line, error) => write!(f, "line {line}: {error}"),
+        }
+    }
+}

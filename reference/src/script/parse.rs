@@ -1,0 +1,179 @@
+//! A line of the script as a call.
+
+use std::collections::VecDeque;
+use std::fmt;
+
+use super::log::Log;
+use crate::link::Order;
+use crate::packet::Way;
+
+const LONGEST_LINE: usize = 4096;
+const MOST_ROOM: u64 = 512;
+
+pub enum Call {
+    Room(usize),
+    Restart(Option<u32>),
+    Open(u32),
+    Reopen,
+    Issue(Order),
+    Resend(u16),
+    ToBox(Vec<u8>),
+    ToOffice(Vec<u8>),
+    Bus(Vec<u8>),
+    Packet { way: Way, id: u8, data: Vec<u8> },
+    Reply { asked: Way, bytes: Vec<u8> },
+    Show,
+    Describe,
+}
+
+#[derive(Clone, Copy, Debug, PartialEq, Eq)]
+pub enum ParseError {
+    TooLong,
+    NotACall,
+    NotANumber,
+    OutOfRange,
+    NotBytes,
+    NoSuchFrame,
+    TooManyWords,
+}
+
+impl fmt::Display for ParseError {
+    fn fmt(&self, f: &mut fmt::Formatter<'_>) -> fmt::Result {
+        f.write_str(match self {
+            ParseError::TooLong => "line too long",
+            ParseError::NotACall => "not a call",
+            ParseError::NotANumber => "not a number",
+            ParseError::OutOfRange => "number out of range",
+            ParseError::NotBytes => "not bytes",
+            ParseError::NoSuchFrame => "no such frame",
+            ParseError::TooManyWords => "too many words",
+        })
+    }
+}
+
+/// The call of a line, if it has one; the logs have the frames that it may name.
+pub fn parse(line: &[u8], from_cab: &Log, from_office: &Log) -> Result<Option<Call>, ParseError> {
+    if line.len() > LONGEST_LINE {
+        return Err(ParseError::TooLong);
+    }
+    let mut words = Words::of(line);
+    let Some(first) = words.next() else {
+        return Ok(None);
+    };
+    let call = match first {
+        b"room" => Call::Room(words.number(MOST_ROOM)? as usize),
+        b"restart" if words.is_empty() => Call::Restart(None),
+        b"restart" => Call::Restart(Some(words.number_u32()?)),
+        b"open" => Call::Open(words.number_u32()?),
+        b"reopen" => Call::Reopen,
+        b"raise" => Call::Issue(Order::Raise(words.number_u16()?)),
+        b"lower" => Call::Issue(Order::Lower(words.number_u16()?)),
+        b"command" => Call::Issue(Order::Command {
+            command: words.byte()?,
+            data: words.bytes()?,
+        }),
+        b"resend" => Call::Resend(words.number_u16()?),
+        b"to-box" => Call::ToBox(words.frame(from_office)?),
+        b"to-office" => Call::ToOffice(words.frame(from_cab)?),
+        b"box" => Call::ToBox(words.bytes()?),
+        b"office" => Call::ToOffice(words.bytes()?),
+        b"bus" => Call::Bus(words.bytes()?),
+        b"packet" => Call::Packet {
+            way: words.way()?,
+            id: words.byte()?,
+            data: words.bytes()?,
+        },
+        b"reply" => Call::Reply {
+            asked: words.way()?,
+            bytes: words.bytes()?,
+        },
+        b"show" => Call::Show,
+        b"describe" => Call::Describe,
+        _ => return Err(ParseError::NotACall),
+    };
+    if !words.is_empty() {
+        return Err(ParseError::TooManyWords);
+    }
+    Ok(Some(call))
+}
+
+/// What is left of a line's words.
+struct Words<'a>(VecDeque<&'a [u8]>);
+
+impl<'a> Words<'a> {
+    fn of(line: &'a [u8]) -> Words<'a> {
+        let end = line.iter().position(|byte| *byte == b'#').unwrap_or(line.len());
+        let words = line[..end].split(|byte| *byte == b' ');
+        Words(words.filter(|word| !word.is_empty()).collect())
+    }
+
+    fn next(&mut self) -> Option<&'a [u8]> {
+        self.0.pop_front()
+    }
+
+    fn is_empty(&self) -> bool {
+        self.0.is_empty()
+    }
+
+    /// A number of any length; those past 64 bits come out as the largest.
+    fn any_number(&mut self) -> Result<u64, ParseError> {
+        let word = self.next().ok_or(ParseError::NotANumber)?;
+        word.iter().try_fold(0u64, |number, byte| match byte {
+            b'0'..=b'9' => Ok(number.saturating_mul(10).saturating_add(u64::from(byte - b'0'))),
+            _ => Err(ParseError::NotANumber),
+        })
+    }
+
+    fn number(&mut self, most: u64) -> Result<u64, ParseError> {
+        let number = self.any_number()?;
+        if number > most {
+            return Err(ParseError::OutOfRange);
+        }
+        Ok(number)
+    }
+
+    fn number_u32(&mut self) -> Result<u32, ParseError> {
+        u32::try_from(self.any_number()?).map_err(|_| ParseError::OutOfRange)
+    }
+
+    fn number_u16(&mut self) -> Result<u16, ParseError> {
+        u16::try_from(self.any_number()?).map_err(|_| ParseError::OutOfRange)
+    }
+
+    fn frame(&mut self, log: &Log) -> Result<Vec<u8>, ParseError> {
+        let index = self.any_number()?;
+        Ok(log.get(index).ok_or(ParseError::NoSuchFrame)?.to_vec())
+    }
+
+    fn byte(&mut self) -> Result<u8, ParseError> {
+        match self.next() {
+            Some(&[high, low]) => Ok(16 * digit(high)? + digit(low)?),
+            _ => Err(ParseError::NotBytes),
+        }
+    }
+
+    fn bytes(&mut self) -> Result<Vec<u8>, ParseError> {
+        let mut bytes = Vec::with_capacity(self.0.len());
+        while !self.is_empty() {
+            bytes.push(self.byte()?);
+        }
+        Ok(bytes)
+    }
+
+    fn way(&mut self) -> Result<Way, ParseError> {
+        match self.next() {
+            Some(b"write") => Ok(Way::Write),
+            Some(b"read") => Ok(Way::Read),
+            _ => Err(ParseError::NotACall),
+        }
+    }
+}
+
+fn digit(byte: u8) -> Result<u8, ParseError> {
+    match byte {
+        b'0'..=b'9' => Ok(byte - b'0'),
+        b'A'..=b'F' => Ok(byte - b'A' + 10),
+        b'a'..=b'f' => Ok(byte - b'a' + 10),
+        _ => Err(ParseError::NotBytes),
+    }
+}

@@ -1,0 +1,259 @@
+//! The script's lines and their answers.
+
+use reference::script::Simulation;
+
+/// The line's answer, as printed; nothing where there is none.
+fn answer(simulation: &mut Simulation, line: &str) -> String {
+    let answer = simulation.line(line.as_bytes());
+    answer.map(|answer| answer.to_string()).unwrap_or_default()
+}
+
+fn run(simulation: &mut Simulation, lines: &[&str]) {
+    for line in lines {
+        let answer = answer(simulation, line);
+        assert!(answer.starts_with("ok"), "{line}: {answer}");
+    }
+}
+
+const FRESH: &str = "level 0, master on, not parked, splash mode 0, drive strength 0, heater 0 kHz at 0 %, \
+                     bezel 0 and 0, test pixels (0, 0) to (0, 0), status none";
+
+fn at_level(level: u16) -> String {
+    FRESH.replace("level 0", &format!("level {level}"))
+}
+
+#[test]
+fn script_lines() {
+    let mut simulation = Simulation::new();
+    let long = format!("show #{}", "x".repeat(4091));
+    for (line, expected) in [
+        ("", ""),
+        ("   # nothing", ""),
+        ("show\r", "line 3: not a call"),
+        ("room 513 1", "line 4: number out of range"),
+        ("room 512 1", "line 5: too many words"),
+        ("room", "line 6: not a number"),
+        ("to-box 0 x", "line 7: no such frame"),
+        ("to-box 99999999999999999999999", "line 8: no such frame"),
+        ("command", "line 9: not bytes"),
+        ("packet wrote", "line 10: not a call"),
+        ("packet write", "line 11: not bytes"),
+        ("packet read ff", "refused 3"),
+        ("reply write 01", "reply 01 data end 1"),
+        ("reply read", "refused 12"),
+        ("bus", "bus"),
+        ("box", "refused 4 14 05 00 00 00 00 00 04"),
+        (&long, "line 17: line too long"),
+        ("restart 4294967296", "line 18: number out of range"),
+        ("restart 4294967295", "ok"),
+        ("open 0", "refused 6"),
+        ("show 1", "line 21: too many words"),
+        ("describe 1", "line 22: too many words"),
+        ("describe describe", "line 23: too many words"),
+        ("Describe", "line 24: not a call"),
+        ("describes", "line 25: not a call"),
+    ] {
+        assert_eq!(answer(&mut simulation, line), expected, "{line}");
+    }
+}
+
+#[test]
+fn room_of_0_to_512() {
+    let mut simulation = Simulation::new();
+    assert_eq!(simulation.room(), 37);
+    for (line, expected) in [
+        ("room 512", "ok"),
+        ("open 1", "ok 10 04 00 01 00 00 00"),
+        ("room 36", "ok"),
+        ("reopen", "refused 1"),
+        ("room 513", "line 5: number out of range"),
+        ("reopen", "refused 1"),
+        ("room 65", "ok"),
+        ("reopen", "ok 10 04 00 01 00 00 00"),
+        ("room 0", "ok"),
+        ("reopen", "refused 1"),
+        ("room 256", "ok"),
+        ("reopen", "ok 10 04 00 01 00 00 00"),
+        // The packet writer's output is as long as its longest packet, whatever the room.
+        ("room 0", "ok"),
+        ("packet read 00", "packet A5 01 00 01"),
+    ] {
+        assert_eq!(answer(&mut simulation, line), expected, "{line}");
+    }
+}
+
+#[test]
+fn describe_the_box() {
+    let mut simulation = Simulation::new();
+    let mut box_is = |lines: &[&str], expected: String| {
+        run(&mut simulation, lines);
+        let described = answer(&mut simulation, "describe");
+        assert_eq!(described.lines().next(), Some(&expected[..]));
+    };
+    box_is(&[], format!("box with no session open, highest 0: {FRESH}"));
+    box_is(
+        &["open 7", "to-box 1"],
+        format!("box session 7, 0 orders taken: {FRESH}"),
+    );
+    box_is(
+        &["box 12 06 00 07 00 00 00 01 00 22 02 00 E8 03"],
+        format!("box session 7, 1 order taken: {}", at_level(1000)),
+    );
+    box_is(
+        &["box 12 06 00 07 00 00 00 02 00 22 02 00 E8 03"],
+        format!("box session 7, 2 orders taken: {}", at_level(2000)),
+    );
+    box_is(
+        &["restart"],
+        format!("box with no session open, highest 7: {FRESH}"),
+    );
+    box_is(
+        &["restart 4294967295"],
+        format!("box with no session open, highest 4294967295: {FRESH}"),
+    );
+}
+
+#[test]
+fn describe_the_office() {
+    let mut simulation = Simulation::new();
+    let mut office_is = |lines: &[&str], expected: &str| {
+        run(&mut simulation, lines);
+        let described = answer(&mut simulation, "describe");
+        assert_eq!(described.lines().nth(1), Some(expected));
+    };
+    office_is(&[], "office never opened");
+    office_is(&["open 7"], "office session 7, opening");
+    office_is(
+        &["to-box 1", "to-office 1"],
+        &format!("office session 7, settled, 0 of 0 orders confirmed: {FRESH}"),
+    );
+    let settings = at_level(1000);
+    office_is(
+        &["raise 1000", "to-box 2", "to-office 2"],
+        &format!("office session 7, settled, 1 of 1 orders confirmed: {settings}"),
+    );
+    let settings = at_level(3000);
+    office_is(
+        &["raise 1000", "raise 1000"],
+        &format!("office session 7, waiting, 1 of 3 orders confirmed: {settings}"),
+    );
+    office_is(
+        &["office 14 05 00 07 00 00 00 05"],
+        "office session 7, over, 1 of 3 orders confirmed",
+    );
+    office_is(&["open 8"], "office session 8, opening");
+    office_is(
+        &["office 14 05 00 08 00 00 00 06"],
+        "office session 8, over, 0 of 0 orders confirmed",
+    );
+}
+
+#[test]
+fn describe_every_setting() {
+    let mut simulation = Simulation::new();
+    run(
+        &mut simulation,
+        &[
+            "open 1",
+            "to-box 1",
+            "to-office 1",
+            "command 00 B8 88",
+            "to-box 2",
+            "command 04 01",
+            "to-box 3",
+            "command 4A 01",
+            "to-box 4",
+            "command 4C 02",
+            "to-box 5",
+            "command 4E 01 02 64",
+            "to-box 6",
+            "command 50 05 00 00 07 00 01",
+            "to-box 7",
+            "command A6 01 00 02 00 FF FF 00 01",
+            "to-box 8",
+            "command 02 00",
+            "to-box 9",
+            "to-office 9",
+        ],
+    );
+    let settings = "level 35000, master off, parked, splash mode 1, drive strength 2, heater 513 kHz at 100 %, \
+                    bezel -5 and 7, test pixels (1, 2) to (65535, 256), status none";
+    let described = answer(&mut simulation, "describe");
+    let lines: Vec<&str> = described.lines().collect();
+    assert_eq!(
+        lines,
+        [
+            format!("box session 1, 8 orders taken: {settings}"),
+            format!("office session 1, settled, 8 of 8 orders confirmed: {settings}"),
+        ]
+    );
+
+    // A read while master is off; then an unknown ID, a wrong length, strength 3, and a level that needs an escape.
+    run(
+        &mut simulation,
+        &[
+            "command 01",
+            "command 02 01",
+            "command 1E",
+            "command 00",
+            "command 4C 03",
+            "command 00 A5 00",
+        ],
+    );
+    let described = answer(&mut simulation, "describe");
+    let status = ", status not available, invalid command, out of range, escape seen, length";
+    assert!(described.contains("level 165, master on,"), "{described}");
+    assert!(described.ends_with(status), "{described}");
+    // The extremes of an offset.
+    run(
+        &mut simulation,
+        &[
+            "to-box 10",
+            "to-box 11",
+            "command 50 FF FF 01 FF FF 00",
+            "to-office 11",
+        ],
+    );
+    assert!(answer(&mut simulation, "describe").contains(" bezel 65535 and -65535, "));
+}
+
+#[test]
+fn describe_every_status_bit() {
+    let named = [
+        (0, 3, "incomplete"),
+        (0, 2, "not available"),
+        (0, 0, "invalid command"),
+        (1, 5, "out of range"),
+        (3, 7, "escape seen"),
+        (3, 6, "length"),
+        (3, 5, "bytes ignored"),
+        (3, 4, "checksum"),
+    ];
+    let told = |status: [u8; 4]| {
+        let mut simulation = Simulation::new();
+        let status: String = status.iter().map(|byte| format!(" {byte:02X}")).collect();
+        let welcome = format!(
+            "office 11 04 00 01 00 00 00 20 1B 00 00 00 01 00 00 00 00 00 00 00 00 01 00 00 01{}{status}",
+            " 00".repeat(8)
+        );
+        run(&mut simulation, &["open 1", &welcome]);
+        let described = answer(&mut simulation, "describe");
+        described.rsplit_once(", status ").unwrap().1.to_string()
+    };
+    assert_eq!(told([0; 4]), "none");
+    assert_eq!(told([0x08, 0, 0, 0x80]), "incomplete, escape seen");
+    assert_eq!(told([0, 0, 1, 0]), "other bits");
+    assert_eq!(
+        told([0xFF; 4]),
+        "incomplete, not available, invalid command, out of range, escape seen, length, bytes ignored, \
+         checksum, other bits"
+    );
+    for byte in 0..4 {
+        for bit in 0..8 {
+            let mut status = [0; 4];
+            status[byte] = 1 << bit;
+            let name = named.iter().find(|(at, of, _)| (*at, *of) == (byte, bit));
+            assert_eq!(told(status), name.map_or("other bits", |(.., name)| name));
+        }
+    }
+}
