@@ -16,15 +16,16 @@ use Rattle.packet.proofs.PacketLaws.{checksum-snoc}
 use Rattle.base.proofs.Lists.{drop-more}
 use Rattle.settings.specs.declared.settings.Settings.{Settings}
 use Rattle.settings.specs.declared.settings.Flag.the-variants.{Incomplete, EscapeSeen, BytesIgnored, WrongChecksum}
-use Rattle.registers.specs.declared.command.Outgoing.{Outgoing}
-use Rattle.registers.specs.declared.command.Performed.{Performed}
+use Rattle.controller.specs.declared.bus.Outgoing.{Outgoing}
+use Rattle.registers.specs.declared.reply.Performed.{Performed}
 use Rattle.controller.specs.declared.bus.Phase.{Phase}
 use Rattle.controller.specs.declared.bus.Phase.the-variants.{Idle, Command, Length, Data, Checksum}
 use Rattle.controller.specs.declared.bus.Collected.{Collected}
 use Rattle.controller.specs.declared.bus.Controller.{Controller}
-use Rattle.registers.specs.Commands.{outgoing}
+use Rattle.registers.specs.Commands.{reply-limit, reply-of}
 use Rattle.controller.specs.Bus.{
   is-idle,
+  waiting,
   after-length,
   after-data,
   controller-of,
@@ -57,8 +58,11 @@ use Rattle.controller.specs.AsWritten.{
   steps,
   sent,
 }
+use Rattle.base.specs.Bytes.{Bytes}
 use Rattle.base.proofs.Tests.{if-both, unless-both}
-use Rattle.controller.proofs.StatusBits.{StatusFits, marked-alike}
+use Rattle.controller.specs.CommandTheorems.{StatusFits}
+use Rattle.controller.specs.BusTheorems.{Agrees}
+use Rattle.controller.proofs.StatusBits.{marked-alike}
 use Rattle.controller.proofs.CommandTable.{Same, failed-same, same}
 
 -- ---- the unsent bytes
@@ -69,10 +73,10 @@ record Unsent (us : List ℕ) (r : Outgoing) : Type 0 where
   pub within : r .len ≤ length (r .bytes)
 
 -- a new reply, of which nothing is sent
-all-unsent : (reply : List ℕ) → Unsent reply (outgoing reply)
+all-unsent : (reply : List ℕ) → Unsent reply (waiting (reply-of reply))
 all-unsent reply =
     record {
-      rest = sym (take-append-seam reply (drop (length reply) (replicate 11 0)));
+      rest = sym (take-append-seam reply (drop (length reply) (replicate reply-limit 0)));
       within = simp length-append (omega arith);
     }
 
@@ -260,10 +264,6 @@ module _ (σ : Settings) (r : Outgoing) (fits : StatusFits σ) where
 
 -- ---- every list of bytes
 
-abbrev pub AllBytes : List ℕ → Type 0
-AllBytes [] = Unit
-AllBytes (b ∷ bs) = (b < 256) × AllBytes bs
-
 -- matched controllers put out the same byte and stay matched
 exchange-alike : {s : State} {c : Controller} → Matches s c → (b : ℕ) → b < 256 → (byte-out (s .unsent) ≡ out c) × Matches (step s b) (after c b)
 unfolding out
@@ -273,14 +273,13 @@ same-settings : {s : State} {c : Controller} → Matches s c → s .settings ≡
 same-settings (matches fits held u) = refl
 
 -- matched controllers answer alike from there on
-agree-from : (bs : List ℕ) → AllBytes bs → (s : State) (c : Controller) → Matches s c → (sent s bs ≡ outs c bs) × (steps s bs .settings ≡ run c bs .settings)
+agree-from : (bs : List ℕ) → Bytes bs → (s : State) (c : Controller) → Matches s c → (sent s bs ≡ outs c bs) × (steps s bs .settings ≡ run c bs .settings)
 unfolding sent outs steps run
 agree-from [] t s c m = (refl, same-settings m)
 agree-from (b ∷ bs) t s c m =
-    let now = exchange-alike m b (t .0) in
-    let later = agree-from bs (t .1) (step s b) (after c b) (now .1) in
+    let now = exchange-alike m b (t 0) in
+    let later = agree-from bs (λ i. t (suc i)) (step s b) (after c b) (now .1) in
     (cc, later .1)
 
--- both definitions answer every list of bytes alike, and hold the same settings after it
-pub agrees : (bs : List ℕ) → AllBytes bs → (sent begin bs ≡ outs fresh bs) × (steps begin bs .settings ≡ run fresh bs .settings)
+pub agrees : Agrees
 agrees bs t = agree-from bs t begin fresh (matches (omega arith) (no-packet refl) (all-unsent []))

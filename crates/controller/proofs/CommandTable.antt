@@ -1,133 +1,66 @@
--- The tests of Commands.antt are the paper's table: computed at all command bytes, and proved for every packet.
+-- The tests of Commands.antt are the paper's table, at every ID and for every packet.
 use Prim.Native.Nat.{ℕ, _/_, _%_}
 use native.Mathlib.Omega.{arith}
-use mathlib.Core.Path.{_≡_, refl, sym}
-use mathlib.Core.Bool.{Bool, true, false, cond, not, _&&_, Bool·beq}
+use mathlib.Core.Path.{_≡_, refl, sym, subst}
+use mathlib.Core.Bool.{Bool, true, false, cond, not, _&&_, and-comm}
 use mathlib.Core.List.{List, [], _∷_}
-use mathlib.Core.Option.{Option, none, some}
+use mathlib.Core.Option.{Option}
 use lib.ListN.{length}
-use lib.Dec.{eqb, T}
+use lib.Dec.{eqb}
+use borrow.Author.Tests.{eqb-true}
 use Rattle.packet.specs.declared.writer.Access.the-variants.{Write, Read}
-use Rattle.registers.specs.declared.command.Register.{Register}
-use Rattle.registers.specs.declared.command.Register.the-variants.{
-  Backlight,
-  Master,
-  Park,
-  Splash,
-  Strength,
-  Heater,
-  Bezel,
-  Status,
-  Pixels,
-}
-use Rattle.registers.specs.declared.command.Lookup.{Lookup}
-use Rattle.registers.specs.declared.command.Lookup.the-variants.{Found, Unknown}
-use Rattle.registers.specs.declared.command.Performed.{Performed}
+use Rattle.registers.specs.declared.lookup.Lookup.{Lookup}
+use Rattle.registers.specs.declared.reply.Performed.{Performed}
 use Rattle.settings.specs.declared.settings.Settings.{Settings}
 use Rattle.settings.specs.declared.settings.Flag.{Flag}
 use Rattle.settings.specs.declared.settings.Flag.the-variants.{NotAvailable, InvalidCommand, OutOfRange, WrongLength}
 use Rattle.settings.specs.Settings.{no-flags}
-use Rattle.registers.specs.Commands.{
-  lookup,
-  access,
-  offers,
-  data-count,
-  request-length,
-  accepts,
-  outgoing,
-  failed,
-  written,
-  write-register,
-  after-read,
-  locked,
-  perform-found,
-  perform-looked-up,
-  perform,
-}
-use Rattle.controller.specs.AsWritten.{Row, table, find, Outcome, outcome, clears, command, command-found}
-use Rattle.base.proofs.Tests.{all-below, if-both, unless-both}
-use Rattle.controller.proofs.StatusBits.{BytesFit, StatusFits, marked, marked-alike}
+use Rattle.registers.specs.declared.lookup.Register.{Register}
+use Rattle.registers.specs.declared.lookup.Register.the-variants.{Backlight, Master, Park, Splash, Strength, Heater, Bezel, Status, Pixels}
+use Rattle.registers.specs.Commands.{lookup, access, reply-of, failed, written, write-register, perform-offered, perform-found, perform-looked-up, perform}
+use Rattle.registers.specs.Block.{StatusHeld}
+use Rattle.controller.specs.AsWritten.{Row, table, find, Outcome, outcome, command, command-found}
+use Rattle.base.proofs.Tests.{cond-cases, if-both, unless-both}
+use Rattle.controller.specs.CommandTheorems.{Described, Alike, unknown, known, TableAlike, StatusFits, PerformedAlike}
+use Rattle.controller.proofs.StatusBits.{marked, marked-alike}
 
--- ---- the table, computed
+-- ---- the table
 
--- to tell registers apart
-abbrev place : Register → ℕ
-place Backlight = 0
-place Master = 1
-place Park = 2
-place Splash = 3
-place Strength = 4
-place Heater = 5
-place Bezel = 6
-place Status = 7
-place Pixels = 8
+-- at an ID, or at those after it
+at-id : (id n : ℕ) {found later : Option Row} {l m : Lookup} → (n ≡ id → Alike id found l) → Alike id later m →
+    Alike id (cond (eqb id n) found later) (cond (eqb id n) l m)
+at-id id n {found} {later} {l} {m} here other = by-cases (eqb id n) refl
+  where
+    by-cases : (x : Bool) → eqb id n ≡ x → Alike id (cond x found later) (cond x l m)
+    by-cases true e = here (sym (eqb-true id n e))
+    by-cases false e = other
 
--- whether data of one value, at each of its bytes, pass both range tests or neither
-unfoldable pub same-range : Register → Row → Bool
-same-range r row = all-below 256 (λ (v : ℕ). Bool·beq (accepts r (v ∷ v ∷ v ∷ [])) (row .accepted (v ∷ v ∷ v ∷ [])))
-
--- whether a register is that of a row, with its ways, its two lengths and its range
-unfoldable pub as-row : Register → Row → Bool
-as-row r row =
-    eqb (place r) (place (row .register))
-    && Bool·beq (offers r Write) (row .writable)
-    && offers r Read
-    && eqb (request-length r Write) (row .count)
-    && eqb (request-length r Read) 0
-    && same-range r row
-
-unfoldable pub as-found : Lookup → Option Row → Bool
-as-found Unknown none = true
-as-found Unknown (some row) = false
-as-found (Found r) none = false
-as-found (Found r) (some row) = as-row r row
-
--- at every command byte both definitions know no register, or the same one with the same ways, lengths and range
-pub table-alike : T (all-below 256 (λ (k : ℕ). as-found (lookup (k / 2)) (find (k / 2) table)))
-unfolding all-below as-found as-row same-range lookup find table
-table-alike = tt
-
--- ---- every ID
-
--- a row says of its register what Commands.antt says of it
-record Described (r : Row) : Type 0 where
-  pub writes : offers (r .register) Write ≡ r .writable
-  pub reads : offers (r .register) Read ≡ true
-  pub counted : data-count (r .register) ≡ r .count
-  pub limited : (d : List ℕ) → accepts (r .register) d ≡ r .accepted d
-  pub guarded : (σ : Settings) → locked σ (r .register) ≡ (eqb (σ .master) 0 && not (eqb (r .id) 0x01))
-  pub cleared : (σ : Settings) → after-read σ (r .register) ≡ clears (r .register) σ
-  pub read-fits : (σ : Settings) → StatusFits σ → StatusFits (clears (r .register) σ)
-  pub write-fits : (σ : Settings) (d : List ℕ) → StatusFits σ → StatusFits (written σ (r .register) d)
-
--- both know no register, or both the same
-data Alike : Option Row → Lookup → Type 0 where
-  unknown : Alike none Unknown
-  known : (r : Row) → Described r → Alike (some r) (Found (r .register))
-
-no-flags-fit : BytesFit no-flags
-no-flags-fit = omega arith
-
-and-true : (b : Bool) → b ≡ (b && true)
-and-true true = refl
-and-true false = refl
-
-and-false : (b : Bool) → false ≡ (b && false)
-and-false true = refl
-and-false false = refl
-
--- at every ID
-alike : (id : ℕ) → Alike (find id table) (lookup id)
+pub table-alike : TableAlike
 unfolding lookup find table
-alike id = search (if-both Alike, known, unknown, and-true, and-false, no-flags-fit) depth 20
+table-alike id = search (at-id, known, unknown) depth 20
 
 -- ---- every packet
 
 -- an outcome, as written, and what the code does are one; the status bytes stay bytes
 pub record Same (o : Outcome) (p : Performed) : Type 0 where
   pub settled : o .settings ≡ p .settings
-  pub replied : outgoing (o .reply) ≡ p .reply
+  pub replied : reply-of (o .reply) ≡ p .reply
   pub fitting : StatusFits (o .settings)
+
+no-flags-fit : StatusHeld no-flags
+no-flags-fit = omega arith
+
+-- a write changes no status bit
+written-status : (σ : Settings) (r : Register) (d : List ℕ) → written σ r d .status ≡ σ .status
+written-status σ Backlight d = refl
+written-status σ Master d = refl
+written-status σ Park d = refl
+written-status σ Splash d = refl
+written-status σ Strength d = refl
+written-status σ Heater d = refl
+written-status σ Bezel d = refl
+written-status σ Status d = refl
+written-status σ Pixels d = refl
 
 module _ (σ : Settings) (fits : StatusFits σ) where
   -- a failure sets its bit and answers its code
@@ -135,33 +68,31 @@ module _ (σ : Settings) (fits : StatusFits σ) where
   failed-same flag code = record { settled = sym (marked-alike σ fits flag .0); replied = refl; fitting = marked-alike σ fits flag .1 }
 
   -- the same checks in the same order
-  row-same : (r : Row) → Described r → (is-read : Bool) (d : List ℕ) → Same (command σ r is-read d) (perform-found σ (r .register) (cond is-read Read Write) d)
-  unfolding command perform-found write-register
+  row-same : (r : Row) → Described r → (is-read : Bool) (d : List ℕ) → Same (command σ r is-read d) (perform-found σ (r .id) (r .register) (cond is-read Read Write) d)
+  unfolding command perform-found perform-offered write-register
   row-same r told true d =
-      rw (told .reads, told .guarded σ, told .cleared σ)
-      (if-both Same (eqb (σ .master) 0 && not (eqb (r .id) 0x01)) (failed-same NotAvailable 0x04)
+      rw (and-comm (not (eqb (r .id) 0x01)) (eqb (σ .switches .master) 0))
+      (if-both Same (eqb (σ .switches .master) 0 && not (eqb (r .id) 0x01)) (failed-same NotAvailable 0x04)
       (unless-both Same (eqb (length d) 0) (failed-same WrongLength 0x05)
-      (record { settled = refl; replied = refl; fitting = told .read-fits σ fits })))
+      (record { settled = refl; replied = refl; fitting = cond-cases StatusFits (eqb (r .id) 0x33) _ _ (λ e. no-flags-fit) (λ e. fits) })))
   row-same r told false d =
-      rw (told .writes, told .guarded σ, told .counted, told .limited d)
+      rw (told .writes, and-comm (not (eqb (r .id) 0x01)) (eqb (σ .switches .master) 0), told .write-length, told .limited d)
       (unless-both Same (r .writable) (failed-same InvalidCommand 0x03)
-      (if-both Same (eqb (σ .master) 0 && not (eqb (r .id) 0x01)) (failed-same NotAvailable 0x04)
+      (if-both Same (eqb (σ .switches .master) 0 && not (eqb (r .id) 0x01)) (failed-same NotAvailable 0x04)
       (unless-both Same (eqb (length d) (r .count)) (failed-same WrongLength 0x05)
       (unless-both Same (r .accepted d) (failed-same OutOfRange 0x07)
-      (record { settled = refl; replied = refl; fitting = told .write-fits σ d fits })))))
+      (record { settled = refl; replied = refl; fitting = subst StatusHeld (sym (written-status σ (r .register) d)) fits })))))
 
   -- a known register or an unknown ID
-  found-same : {found : Option Row} {l : Lookup} → Alike found l → (k : ℕ) (d : List ℕ) → Same (command-found found σ (eqb (k % 2) 1) d) (perform-looked-up l σ k d)
+  found-same : (k : ℕ) {found : Option Row} {l : Lookup} → Alike (k / 2) found l → (d : List ℕ) → Same (command-found found σ (eqb (k % 2) 1) d) (perform-looked-up l σ k d)
   unfolding access
-  found-same unknown k d = failed-same InvalidCommand 0x03
-  found-same (known r told) k d = row-same r told (eqb (k % 2) 1) d
+  found-same k unknown d = failed-same InvalidCommand 0x03
+  found-same k (known r at told) d = rw (← at) (row-same r told (eqb (k % 2) 1) d)
 
 -- both definitions do the same with every command byte and data
 pub same : (σ : Settings) (k : ℕ) (d : List ℕ) → StatusFits σ → Same (command-found (find (k / 2) table) σ (eqb (k % 2) 1) d) (perform σ k d)
-same σ k d fits = found-same σ fits (alike (k / 2)) k d
+same σ k d fits = found-same σ fits k (table-alike (k / 2)) d
 
--- as two equations: one effect and one reply, by the paper's table and by the tests that the code makes
-pub performed-alike : (σ : Settings) (k : ℕ) (d : List ℕ) → StatusFits σ →
-    (command-found (find (k / 2) table) σ (eqb (k % 2) 1) d .settings ≡ perform σ k d .settings)
-    × (outgoing (command-found (find (k / 2) table) σ (eqb (k % 2) 1) d .reply) ≡ perform σ k d .reply)
+-- as two equations
+pub performed-alike : PerformedAlike
 performed-alike σ k d fits = (same σ k d fits .settled, same σ k d fits .replied)

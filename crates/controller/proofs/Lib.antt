@@ -2,6 +2,7 @@ pub mod Agreement
 pub mod Assembled
 pub mod CommandTable
 pub mod Effect
+pub mod Examples
 pub mod Keeps
 pub mod NothingBefore
 pub mod ReadsBack

@@ -10,7 +10,6 @@ use lib.Dec.{eqb, ltb, eqb·suc-zero}
 use borrow.Author.Tests.{ltb-true, ltb-false}
 use Rattle.packet.specs.Packet.{command-byte, checksum, escape-byte, escape, packet-of, packet}
 use Rattle.packet.proofs.PacketLaws.{escape-append}
-use Rattle.packet.specs.declared.writer.Access.{Access}
 use Rattle.controller.specs.declared.bus.Phase.{Phase}
 use Rattle.controller.specs.declared.bus.Phase.the-variants.{Command, Length}
 use Rattle.controller.specs.declared.bus.Collected.{Collected}
@@ -21,6 +20,7 @@ use Rattle.settings.specs.Settings.{flagged, cleared}
 use Rattle.settings.proofs.StatusLaws.{cleared-flagged}
 use Rattle.controller.specs.Bus.{is-idle, feed-at, after-length, after}
 use Rattle.controller.specs.Run.{run}
+use Rattle.controller.specs.BusTheorems.{NothingBefore, ClearedBefore}
 use Rattle.controller.proofs.RunLaws.{run-append}
 use Rattle.packet.specs.Packet.{has-escape}
 use Rattle.controller.specs.Bus.{opening, noted}
@@ -115,9 +115,7 @@ packet-escaped : (k : ℕ) (d : List ℕ) → packet-of k d ≡ 0xA5 ∷ escape 
 unfolding escape
 packet-escaped k d = packet-is k d ∙ simp (escape-append, append-assoc, append-nil)
 
--- over every proper beginning of the writer's packet only those two status bits change, and exactly so
-pub nothing-before : (c : Controller) (id : ℕ) (access : Access) (d : List ℕ) (i : ℕ) → i < length (packet id access d) →
-    run c (take i (packet id access d)) .settings ≡ cond (eqb i 0) (c .settings) (noted (opening c) (take i (packet id access d)))
+pub nothing-before : NothingBefore
 unfolding run has-escape
 nothing-before c id access d zero h = refl
 nothing-before c id access d (suc i) h =
@@ -141,9 +139,7 @@ cleared-noted σ bytes = by-cases (has-escape bytes)
     by-cases true = cleared-flagged σ EscapeSeen
     by-cases false = refl
 
--- so no register but status changes
-pub cleared-before : (c : Controller) (id : ℕ) (access : Access) (d : List ℕ) (i : ℕ) → i < length (packet id access d) →
-    cleared (run c (take i (packet id access d)) .settings) ≡ cleared (c .settings)
+pub cleared-before : ClearedBefore
 cleared-before c id access d i h = rw (nothing-before c id access d i h) (by-cases (eqb i 0))
   where
     by-cases : (x : Bool) → cleared (cond x (c .settings) (noted (opening c) (take i (packet id access d)))) ≡ cleared (c .settings)

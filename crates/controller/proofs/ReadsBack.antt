@@ -11,7 +11,6 @@ use borrow.Author.Tests.{eqb-true, leb-true, leb-false, eq-eqb, ne-eqb}
 use Rattle.base.proofs.Lists.{sets-front}
 use Rattle.packet.specs.Packet.{command-byte, total, checksum, escape-byte, escape, fields, packet-of, packet, has-escape}
 use Rattle.packet.proofs.PacketLaws.{checksum-snoc}
-use Rattle.packet.specs.declared.writer.Access.{Access}
 use Rattle.controller.specs.declared.bus.Phase.{Phase}
 use Rattle.controller.specs.declared.bus.Phase.the-variants.{Idle, Command, Length, Data, Checksum}
 use Rattle.controller.specs.declared.bus.Collected.{Collected}
@@ -25,6 +24,7 @@ use Rattle.controller.specs.Bus.{
   is-idle,
   opening,
   noted,
+  waiting,
   nothing-unsent,
   controller-of,
   at,
@@ -39,6 +39,7 @@ use Rattle.controller.specs.Bus.{
   after,
 }
 use Rattle.controller.specs.Run.{run}
+use Rattle.controller.specs.BusTheorems.{PacketRead, ReadsBack}
 use Rattle.controller.proofs.RunLaws.{run-append}
 
 -- ---- "escape seen" twice is once
@@ -200,7 +201,7 @@ data-held body d short = rw (sets-front d body short) (take-at d _ (length d) re
 -- a checksum byte that is right ends the packet
 sum-in : (σ : Settings) (k n sum : ℕ) (body : List ℕ) →
     let done = perform (noted σ (escape-byte sum)) k (take n body) in
-    run (reading σ Checksum (holding k n sum body)) (escape-byte sum) ≡ controller-of Idle false (holding k n sum body) (done .reply) (done .settings)
+    run (reading σ Checksum (holding k n sum body)) (escape-byte sum) ≡ controller-of Idle false (holding k n sum body) (waiting (done .reply)) (done .settings)
 unfolding feed-at judge
 sum-in σ k n sum body = byte-in σ Checksum (holding k n sum body) refl sum ∙ rw (eq-eqb sum sum refl)
 
@@ -208,7 +209,7 @@ sum-in σ k n sum body = byte-in σ Checksum (holding k n sum body) refl sum ∙
 
 packet-in : (c : Controller) (k : ℕ) (d : List ℕ) → length d ≤ length (c .packet .body) →
     let done = perform (noted (opening c) (packet-of k d)) k d in
-    run c (packet-of k d) ≡ controller-of Idle false (holding k (length d) (checksum (k ∷ length d ∷ d)) (sets (c .packet .body) 0 d)) (done .reply) (done .settings)
+    run c (packet-of k d) ≡ controller-of Idle false (holding k (length d) (checksum (k ∷ length d ∷ d)) (sets (c .packet .body) 0 d)) (waiting (done .reply)) (done .settings)
 unfolding run has-escape after-length
 packet-in c k d short =
     let n = length d in
@@ -222,18 +223,10 @@ packet-in c k d short =
     ∙ sum-in (noted (opening c) front) k n sum body
     ∙ rw (noted-append (opening c) front (escape-byte sum), data-held (c .packet .body) d short))
 
--- from every controller: idle again, with the settings and the reply that the command with its data gives
-pub record ReadsBack (c : Controller) (id : ℕ) (access : Access) (d : List ℕ) : Type 0 where
-  pub idle : run c (packet id access d) .phase ≡ Idle
-  pub escape-shut : run c (packet id access d) .escape ≡ false
-  pub settings-are : run c (packet id access d) .settings ≡ perform (noted (opening c) (packet id access d)) (command-byte id access) d .settings
-  pub reply-is : run c (packet id access d) .reply ≡ perform (noted (opening c) (packet id access d)) (command-byte id access) d .reply
-  pub body-long : length (run c (packet id access d) .packet .body) ≡ 255
-
--- the writer's packet is read as the command that was written, with its data, and as no other
-pub reads-back : (c : Controller) (id : ℕ) (access : Access) (d : List ℕ) → length d ≤ 255 → length (c .packet .body) ≡ 255 → ReadsBack c id access d
-reads-back c id access d short long =
-    let e = packet-in c (command-byte id access) d (omega arith) in
+-- the same for every command byte
+pub reads-back-command : (c : Controller) (k : ℕ) (d : List ℕ) → length d ≤ 255 → length (c .packet .body) ≡ 255 → PacketRead c k d
+reads-back-command c k d short long =
+    let e = packet-in c k d (omega arith) in
     record {
       idle = ap (λ (x : Controller). x .phase) e;
       escape-shut = ap (λ (x : Controller). x .escape) e;
@@ -241,3 +234,6 @@ reads-back c id access d short long =
       reply-is = ap (λ (x : Controller). x .reply) e;
       body-long = ap (λ (x : Controller). length (x .packet .body)) e ∙ length-sets (c .packet .body) 0 d ∙ long;
     }
+
+pub reads-back : ReadsBack
+reads-back c id access = reads-back-command c (command-byte id access)

@@ -9,17 +9,17 @@ use lib.ListN.{length, take, drop, getD, replicate, length-append}
 use lib.Seq.{drop-cons}
 use lib.Dec.{eqb, ltb}
 use borrow.Author.Tests.{lt-ltb, ltb-false}
-use Rattle.packet.specs.Packet.{command-byte, packet}
+use Rattle.packet.specs.Packet.{command-byte, packet-of, packet}
 use Rattle.packet.specs.Reply.{success}
 use Rattle.packet.specs.declared.writer.Access.{Access}
 use Rattle.packet.specs.declared.writer.Access.the-variants.{Write, Read}
 use Rattle.controller.specs.declared.bus.Phase.the-variants.{Idle}
 use Rattle.controller.specs.declared.bus.Controller.{Controller}
-use Rattle.registers.specs.declared.command.Lookup.{Lookup}
-use Rattle.registers.specs.declared.command.Lookup.the-variants.{Found, Unknown}
-use Rattle.registers.specs.declared.command.Performed.{Performed}
-use Rattle.registers.specs.declared.command.Register.{Register}
-use Rattle.registers.specs.declared.command.Register.the-variants.{Backlight, Master, Park, Splash, Strength, Heater, Bezel, Status, Pixels}
+use Rattle.registers.specs.declared.lookup.Lookup.{Lookup}
+use Rattle.registers.specs.declared.lookup.Lookup.the-variants.{Found, Unknown}
+use Rattle.registers.specs.declared.reply.Performed.{Performed}
+use Rattle.registers.specs.declared.lookup.Register.{Register}
+use Rattle.registers.specs.declared.lookup.Register.the-variants.{Backlight, Master, Park, Splash, Strength, Heater, Bezel, Status, Pixels}
 use Rattle.settings.specs.declared.settings.Settings.{Settings}
 use Rattle.registers.specs.Commands.{
   lookup,
@@ -28,34 +28,37 @@ use Rattle.registers.specs.Commands.{
   request-length,
   accepts,
   read,
-  outgoing,
+  reply-limit,
+  reply-of,
   write-register,
-  obey,
+  execute,
   locked,
+  perform-offered,
   perform-found,
   perform-looked-up,
   perform,
 }
-use Rattle.controller.specs.Bus.{fresh, one-sent, outside, after, out}
+use Rattle.controller.specs.Bus.{waiting, fresh, one-sent, outside, after, out}
 use Rattle.controller.specs.Run.{run, outs, Ready}
+use Rattle.controller.specs.BusTheorems.{Settles, Replies}
 use Rattle.controller.proofs.RunLaws.{run-append}
 use Rattle.controller.specs.Bus.{opening, noted}
-use Rattle.controller.proofs.ReadsBack.{reads-back}
+use Rattle.controller.proofs.ReadsBack.{reads-back-command}
 
 -- ---- a command's reply
 
--- at most 11 bytes, of which none is sent
+-- bytes for which a reply has room
 record Replying (p : Performed) : Type 0 where
   bytes : List ℕ
-  short : length bytes ≤ 11
-  is-outgoing : p .reply ≡ outgoing bytes
+  short : length bytes ≤ reply-limit
+  is-reply : p .reply ≡ reply-of bytes
 
 either : (x : Bool) {p q : Performed} → Replying p → Replying q → Replying (cond x p q)
 either true h g = h
 either false h g = g
 
-one-byte : {σ : Settings} (b : ℕ) → Replying (record { settings = σ; reply = outgoing (b ∷ []) })
-one-byte b = record { bytes = b ∷ []; short = omega arith; is-outgoing = refl }
+one-byte : {σ : Settings} (b : ℕ) → Replying (record { settings = σ; reply = reply-of (b ∷ []) })
+one-byte b = record { bytes = b ∷ []; short = omega arith; is-reply = refl }
 
 -- a read gives at most 8 bytes
 read-short : (σ : Settings) (r : Register) → length (read σ r) ≤ 8
@@ -73,29 +76,25 @@ success-length : (bytes : List ℕ) → length (success bytes) ≡ length bytes 
 unfolding success
 success-length bytes = simp length-append (omega arith)
 
-obey-replying : (σ : Settings) (r : Register) (way : Access) (d : List ℕ) → Replying (obey σ r way d)
+execute-replying : (σ : Settings) (id : ℕ) (r : Register) (way : Access) (d : List ℕ) → Replying (execute σ id r way d)
 unfolding write-register
-obey-replying σ r Write d = either (accepts r d) (one-byte 0x01) (one-byte 0x07)
-obey-replying σ r Read d = record { bytes = success (read σ r); short = omega (arith, success-length (read σ r), read-short σ r); is-outgoing = refl }
+execute-replying σ id r Write d = either (accepts r d) (one-byte 0x01) (one-byte 0x07)
+execute-replying σ id r Read d = record { bytes = success (read σ r); short = omega (arith, success-length (read σ r), read-short σ r); is-reply = refl }
 
 looked-up-replying : (l : Lookup) (σ : Settings) (k : ℕ) (d : List ℕ) → Replying (perform-looked-up l σ k d)
-unfolding perform-found
+unfolding perform-found perform-offered
 looked-up-replying Unknown σ k d = one-byte 0x03
 looked-up-replying (Found r) σ k d =
-    either (offers r (access-of k))
-    (either (locked σ r) (one-byte 0x04) (either (eqb (length d) (request-length r (access-of k))) (obey-replying σ r (access-of k) d) (one-byte 0x05)))
+    either (offers (k / 2) (access-of k))
+    (either (locked σ (k / 2)) (one-byte 0x04) (either (eqb (length d) (request-length r (access-of k))) (execute-replying σ (k / 2) r (access-of k) d) (one-byte 0x05)))
     (one-byte 0x03)
 
 replying : (σ : Settings) (k : ℕ) (d : List ℕ) → Replying (perform σ k d)
 replying σ k d = looked-up-replying (lookup (k / 2)) σ k d
 
--- of a command's reply nothing is sent yet, and it is at most 11 bytes long
-pub reply-short : (σ : Settings) (k : ℕ) (d : List ℕ) → (perform σ k d .reply .sent ≡ 0) × (perform σ k d .reply .len ≤ 11)
-reply-short σ k d = let h = replying σ k d in rw (h .is-outgoing) (refl, h .short)
-
--- it is no longer than the bytes that hold it
+-- a command's reply is no longer than the bytes that hold it
 reply-whole : (σ : Settings) (k : ℕ) (d : List ℕ) → perform σ k d .reply .len ≤ length (perform σ k d .reply .bytes)
-reply-whole σ k d = let h = replying σ k d in rw (h .is-outgoing) (omega (arith, length-append (h .bytes) (drop (length (h .bytes)) (replicate 11 0))))
+reply-whole σ k d = let h = replying σ k d in rw (h .is-reply) (omega (arith, length-append (h .bytes) (drop (length (h .bytes)) (replicate reply-limit 0))))
 
 -- ---- zeros to an idle controller
 
@@ -143,36 +142,35 @@ drained-out (suc n) c e whole =
 
 -- ---- the law for the layers above
 
--- a ready controller reads the writer's packet with the settings that it has
-read-ready : (c : Controller) (id : ℕ) (access : Access) (d : List ℕ) → Ready c → length d ≤ 255 →
-    let p = packet id access d in
-    let done = perform (noted (c .settings) p) (command-byte id access) d in
-    (run c p .settings ≡ done .settings) × (run c p .reply ≡ done .reply)
-read-ready c id access d ready short =
+-- a ready controller reads a packet with the settings that it has
+read-ready : (c : Controller) (k : ℕ) (d : List ℕ) → Ready c → length d ≤ 255 →
+    let p = packet-of k d in
+    let done = perform (noted (c .settings) p) k d in
+    (run c p .settings ≡ done .settings) × (run c p .reply ≡ waiting (done .reply))
+read-ready c k d ready short =
     let opened : opening c ≡ c .settings = rw (ready .idle) in
-    let back = reads-back c id access d short (ready .body-long) in
+    let back = reads-back-command c k d short (ready .body-long) in
     (rw opened at (back .settings-are), rw opened at (back .reply-is))
 
 -- a command to a ready controller and zeros enough leave it ready, with the settings that the command gives
-pub settles : (c : Controller) (id : ℕ) (access : Access) (d : List ℕ) (n : ℕ) → Ready c → length d ≤ 255 →
-    let p = packet id access d in
-    let done = perform (noted (c .settings) p) (command-byte id access) d in
+pub settles-command : (c : Controller) (k : ℕ) (d : List ℕ) (n : ℕ) → Ready c → length d ≤ 255 →
+    let p = packet-of k d in
+    let done = perform (noted (c .settings) p) k d in
     done .reply .len ≤ n → Ready (run c (p ++ replicate n 0x00)) × (run c (p ++ replicate n 0x00) .settings ≡ done .settings)
-settles c id access d n ready short enough =
-    let p = packet id access d in
-    let back = reads-back c id access d short (ready .body-long) in
-    let read = read-ready c id access d ready short in
+settles-command c k d n ready short enough =
+    let p = packet-of k d in
+    let back = reads-back-command c k d short (ready .body-long) in
+    let read = read-ready c k d ready short in
     let end = drained n (run c p) (record { idle = back .idle; few = rw (read .1) (omega arith); body-long = back .body-long }) in
     rw (run-append p (replicate n 0x00) c) (end .0, end .1 ∙ read .0)
 
--- as many zeros as the reply is long bring it out
-pub replies : (c : Controller) (id : ℕ) (access : Access) (d : List ℕ) (n : ℕ) → Ready c → length d ≤ 255 →
-    let p = packet id access d in
-    let done = perform (noted (c .settings) p) (command-byte id access) d in
-    n ≡ done .reply .len → outs (run c p) (replicate n 0x00) ≡ take n (done .reply .bytes)
+pub settles : Settles
+settles c id access = settles-command c (command-byte id access)
+
+pub replies : Replies
 replies c id access d n ready short e =
     let p = packet id access d in
     let σ = noted (c .settings) p in
     let k = command-byte id access in
-    let is-done = read-ready c id access d ready short .1 in
-    drained-out n (run c p) (rw is-done (omega (arith, reply-short σ k d))) (rw is-done (reply-whole σ k d)) ∙ rw (is-done, reply-short σ k d .0)
+    let is-done = read-ready c k d ready short .1 in
+    drained-out n (run c p) (rw is-done (omega arith)) (rw is-done (reply-whole σ k d)) ∙ rw is-done

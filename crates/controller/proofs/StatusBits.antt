@@ -5,7 +5,6 @@ use mathlib.Core.Bool.{Bool}
 use native.Mathlib.Omega.{arith}
 use lib.Dec.{eqb, ltb, T, eqb→eq, ltb→lt, lit<}
 use Rattle.settings.specs.declared.settings.Settings.{Settings}
-use Rattle.settings.specs.declared.settings.StatusBytes.{StatusBytes}
 use Rattle.settings.specs.declared.settings.Flag.{Flag}
 use Rattle.settings.specs.declared.settings.Flag.the-variants.{
   Incomplete,
@@ -19,15 +18,16 @@ use Rattle.settings.specs.declared.settings.Flag.the-variants.{
 }
 use Rattle.settings.specs.Settings.{set-bit, in-first, in-second, in-fourth, with-status, flagged}
 use Rattle.controller.specs.AsWritten as written
+use Rattle.controller.specs.CommandTheorems.{StatusFits}
 use Rattle.base.proofs.Tests.{all-below, below-each}
 
 -- ---- one bit of a byte
 
 alike-at : ℕ → ℕ → Bool
-alike-at bit b = eqb (set-bit b (2 ^ bit)) (written.set bit b)
+alike-at bit b = eqb (set-bit b (2 ^ bit)) (written.with-bit bit b)
 
 fits-at : ℕ → ℕ → Bool
-fits-at bit b = ltb (written.set bit b) 256
+fits-at bit b = ltb (written.with-bit bit b) 256
 
 all-bits : (ℕ → ℕ → Bool) → Bool
 all-bits test = all-below 8 (λ (bit : ℕ). all-below 256 (test bit))
@@ -46,24 +46,15 @@ module _ (bit b : ℕ) (h : bit < 8) (k : b < 256) where
   unfolding all-bits
   one-bit test t = below-each 256 (test bit) (below-each 8 (λ (i : ℕ). all-below 256 (test i)) t bit h) b k
 
-  set-alike : set-bit b (2 ^ bit) ≡ written.set bit b
+  set-alike : set-bit b (2 ^ bit) ≡ written.with-bit bit b
   unfolding alike-at
-  set-alike = eqb→eq (set-bit b (2 ^ bit)) (written.set bit b) (one-bit alike-at bits-alike)
+  set-alike = eqb→eq (set-bit b (2 ^ bit)) (written.with-bit bit b) (one-bit alike-at bits-alike)
 
-  set-fits : written.set bit b < 256
+  set-fits : written.with-bit bit b < 256
   unfolding fits-at
-  set-fits = ltb→lt (written.set bit b) 256 (one-bit fits-at bits-fit)
+  set-fits = ltb→lt (written.with-bit bit b) 256 (one-bit fits-at bits-fit)
 
 -- ---- the eight flags
-
-pub record BytesFit (s : StatusBytes) : Type 0 where
-  pub first-fits : s .first < 256
-  pub second-fits : s .second < 256
-  pub third-fits : s .third < 256
-  pub fourth-fits : s .fourth < 256
-
-abbrev pub StatusFits : Settings → Type 0
-StatusFits σ = BytesFit (σ .status)
 
 -- a flag's bit, as written
 abbrev pub marked : Flag → Settings → Settings
@@ -78,13 +69,13 @@ marked WrongChecksum σ = written.wrong-checksum σ
 
 module _ (σ : Settings) (fits : StatusFits σ) where
   first-alike : (bit : ℕ) → bit < 8 → (with-status σ (in-first (σ .status) (2 ^ bit)) ≡ written.in-first bit σ) × StatusFits (written.in-first bit σ)
-  first-alike bit h = (rw (set-alike bit (σ .status .first) h (fits .first-fits)), omega (arith, set-fits bit (σ .status .first) h (fits .first-fits)))
+  first-alike bit h = (rw (set-alike bit (σ .status .first) h (fits .first)), omega (arith, set-fits bit (σ .status .first) h (fits .first)))
 
   second-alike : (bit : ℕ) → bit < 8 → (with-status σ (in-second (σ .status) (2 ^ bit)) ≡ written.in-second bit σ) × StatusFits (written.in-second bit σ)
-  second-alike bit h = (rw (set-alike bit (σ .status .second) h (fits .second-fits)), omega (arith, set-fits bit (σ .status .second) h (fits .second-fits)))
+  second-alike bit h = (rw (set-alike bit (σ .status .second) h (fits .second)), omega (arith, set-fits bit (σ .status .second) h (fits .second)))
 
   fourth-alike : (bit : ℕ) → bit < 8 → (with-status σ (in-fourth (σ .status) (2 ^ bit)) ≡ written.in-fourth bit σ) × StatusFits (written.in-fourth bit σ)
-  fourth-alike bit h = (rw (set-alike bit (σ .status .fourth) h (fits .fourth-fits)), omega (arith, set-fits bit (σ .status .fourth) h (fits .fourth-fits)))
+  fourth-alike bit h = (rw (set-alike bit (σ .status .fourth) h (fits .fourth)), omega (arith, set-fits bit (σ .status .fourth) h (fits .fourth)))
 
   -- every flag sets the bit that the paper gives it, and the status bytes stay bytes
   pub marked-alike : (f : Flag) → (flagged σ f ≡ marked f σ) × StatusFits (marked f σ)

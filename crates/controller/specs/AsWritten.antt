@@ -1,6 +1,6 @@
 -- The controller once more, told as document 01 tells it: the open packet is the list of its bytes, and the checks are
 -- made on that list when it is whole. It shares with the definitions that the code follows only the settings and what a
--- register's read and write are. `agrees` in Agreement.antt shows that both answer every list of bytes alike.
+-- register's read and write are. `Agrees` in BusTheorems.antt says that both answer every list of bytes alike.
 use Prim.Native.Nat.{ℕ, _+_, _/_, _%_, _^_}
 use mathlib.Core.Bool.{Bool, true, false, cond, not, _&&_}
 use mathlib.Core.List.{List, [], _∷_, _++_}
@@ -10,24 +10,24 @@ use lib.Dec.{eqb, leb}
 use Rattle.packet.specs.Packet.{checksum}
 use Rattle.packet.specs.Reply.{success}
 use Rattle.settings.specs.declared.settings.Settings.{Settings}
-use Rattle.registers.specs.declared.command.Register.{Register}
-use Rattle.registers.specs.declared.command.Register.the-variants.{Backlight, Master, Park, Splash, Strength, Heater, Bezel, Status, Pixels}
+use Rattle.registers.specs.declared.lookup.Register.{Register}
+use Rattle.registers.specs.declared.lookup.Register.the-variants.{Backlight, Master, Park, Splash, Strength, Heater, Bezel, Status, Pixels}
 use Rattle.settings.specs.Settings.{fresh, with-status, cleared}
 use Rattle.registers.specs.Commands.{read, written}
 
 -- ---- status bits, by their numbers
 
-abbrev pub set : ℕ → ℕ → ℕ
-set bit b = cond (eqb (b / 2 ^ bit % 2) 1) b (b + 2 ^ bit)
+abbrev pub with-bit : ℕ → ℕ → ℕ
+with-bit bit b = cond (eqb (b / 2 ^ bit % 2) 1) b (b + 2 ^ bit)
 
 abbrev pub in-first : ℕ → Settings → Settings
-in-first bit σ = with-status σ (record { first = set bit (σ .status .first); second = σ .status .second; third = σ .status .third; fourth = σ .status .fourth })
+in-first bit σ = with-status σ (record { first = with-bit bit (σ .status .first); second = σ .status .second; third = σ .status .third; fourth = σ .status .fourth })
 
 abbrev pub in-second : ℕ → Settings → Settings
-in-second bit σ = with-status σ (record { first = σ .status .first; second = set bit (σ .status .second); third = σ .status .third; fourth = σ .status .fourth })
+in-second bit σ = with-status σ (record { first = σ .status .first; second = with-bit bit (σ .status .second); third = σ .status .third; fourth = σ .status .fourth })
 
 abbrev pub in-fourth : ℕ → Settings → Settings
-in-fourth bit σ = with-status σ (record { first = σ .status .first; second = σ .status .second; third = σ .status .third; fourth = set bit (σ .status .fourth) })
+in-fourth bit σ = with-status σ (record { first = σ .status .first; second = σ .status .second; third = σ .status .third; fourth = with-bit bit (σ .status .fourth) })
 
 abbrev pub incomplete : Settings → Settings
 incomplete σ = in-first 3 σ
@@ -100,29 +100,22 @@ pub record Outcome : Type 0 where
 abbrev pub outcome : Settings → List ℕ → Outcome
 outcome σ reply = record { settings = σ; reply = reply }
 
-abbrev pub clears : Register → Settings → Settings
-clears Backlight σ = σ
-clears Master σ = σ
-clears Park σ = σ
-clears Splash σ = σ
-clears Strength σ = σ
-clears Heater σ = σ
-clears Bezel σ = σ
-clears Status σ = cleared σ
-clears Pixels σ = σ
+-- a status read clears what it gives
+abbrev pub clears : ℕ → Settings → Settings
+clears id σ = cond (eqb id 0x33) (cleared σ) σ
 
 -- a command byte is a write of its register or, where it is odd, a read
 unfoldable pub command : Settings → Row → Bool → List ℕ → Outcome
 command σ r false d =
     cond (not (r .writable)) (outcome (invalid-command σ) (0x03 ∷ []))
-    (cond (eqb (σ .master) 0 && not (eqb (r .id) 0x01)) (outcome (not-available σ) (0x04 ∷ []))
+    (cond (eqb (σ .switches .master) 0 && not (eqb (r .id) 0x01)) (outcome (not-available σ) (0x04 ∷ []))
     (cond (not (eqb (length d) (r .count))) (outcome (wrong-length σ) (0x05 ∷ []))
     (cond (not (r .accepted d)) (outcome (out-of-range σ) (0x07 ∷ []))
     (outcome (written σ (r .register) d) (0x01 ∷ [])))))
 command σ r true d =
-    cond (eqb (σ .master) 0 && not (eqb (r .id) 0x01)) (outcome (not-available σ) (0x04 ∷ []))
+    cond (eqb (σ .switches .master) 0 && not (eqb (r .id) 0x01)) (outcome (not-available σ) (0x04 ∷ []))
     (cond (not (eqb (length d) 0)) (outcome (wrong-length σ) (0x05 ∷ []))
-    (outcome (clears (r .register) σ) (success (read σ (r .register)))))
+    (outcome (clears (r .id) σ) (success (read σ (r .register)))))
 
 abbrev pub command-found : Option Row → Settings → Bool → List ℕ → Outcome
 command-found none σ is-read d = outcome (invalid-command σ) (0x03 ∷ [])

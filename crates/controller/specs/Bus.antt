@@ -9,14 +9,15 @@ use Rattle.controller.specs.declared.bus.Phase.the-variants.{Idle, Comma
 use Rattle.controller.specs.declared.bus.Collected.{Collected}
 use Rattle.controller.specs.declared.bus.Controller.{Controller}
 use Rattle.controller.specs.declared.bus.Exchanged.{Exchanged}
-use Rattle.registers.specs.declared.command.Outgoing.{Outgoing}
-use Rattle.registers.specs.declared.command.Performed.{Performed}
+use Rattle.controller.specs.declared.bus.Outgoing.{Outgoing}
+use Rattle.registers.specs.declared.reply.ReplyBytes.{ReplyBytes}
+use Rattle.registers.specs.declared.reply.Performed.{Performed}
 use Rattle.settings.specs.declared.settings.Settings.{Settings}
 use Rattle.settings.specs.declared.settings.Flag.{Flag}
 use Rattle.settings.specs.declared.settings.Flag.the-variants.{Incomplete, EscapeSeen, BytesIgnored, WrongChecksum}
 use Rattle.settings.specs.Settings as settings-spec
 use Rattle.packet.specs.Packet.{has-escape}
-use Rattle.registers.specs.Commands.{perform, outgoing}
+use Rattle.registers.specs.Commands.{perform, reply-of}
 
 abbrev pub is-idle : Phase → Bool
 is-idle Idle = true
@@ -53,8 +54,12 @@ after-data left = cond (leb left 1) Checksum (Data (left - 1))
 
 -- ---- the controller
 
+-- a reply of which nothing is sent yet
+abbrev pub waiting : ReplyBytes → Outgoing
+waiting r = record { bytes = r .bytes; len = r .len; sent = 0 }
+
 abbrev pub nothing-unsent : Outgoing
-nothing-unsent = outgoing []
+nothing-unsent = waiting (reply-of [])
 
 abbrev pub controller-of : Phase → Bool → Collected → Outgoing → Settings → Controller
 controller-of phase escape packet reply σ = record { phase = phase; escape = escape; packet = packet; reply = reply; settings = σ }
@@ -75,8 +80,8 @@ start c = cond (is-idle (c .phase)) (started c) (started (flagged c Incomplete))
 abbrev pub at : Controller → Phase → Collected → Controller
 at c phase packet = controller-of phase false packet (c .reply) (c .settings)
 
-abbrev pub ended : Controller → Settings → Outgoing → Controller
-ended c σ reply = controller-of Idle false (c .packet) reply σ
+abbrev pub ended : Controller → Settings → ReplyBytes → Controller
+ended c σ reply = controller-of Idle false (c .packet) (waiting reply) σ
 
 -- the whole packet as a command
 abbrev pub performed : Collected → Settings → Performed
@@ -86,7 +91,7 @@ performed p σ = perform σ (p .command) (take (p .count) (p .body))
 unfoldable pub judge : Controller → ℕ → Controller
 judge c v =
     cond (eqb v (c .packet .sum)) (ended c (performed (c .packet) (c .settings) .settings) (performed (c .packet) (c .settings) .reply))
-    (ended c (settings-spec.flagged (c .settings) WrongChecksum) (outgoing (0x02 ∷ [])))
+    (ended c (settings-spec.flagged (c .settings) WrongChecksum) (reply-of (0x02 ∷ [])))
 
 unfoldable pub feed-at : Phase → Controller → ℕ → Controller
 feed-at Idle c v = c

@@ -1,5 +1,7 @@
 pub mod AsWritten
 pub mod Bus
 pub mod BusState
+pub mod BusTheorems
+pub mod CommandTheorems
 pub mod Examples
 pub mod Run

@@ -1,6 +1,5 @@
 // The controller, and its exchange: a byte in, a byte out, and the controller after it.
 use crate::run::exchange_all;
-use registers::Outgoing;
 use registers::REPLY_LIMIT;
 use settings::Settings;
 ghost use mathlib.Core.Path.{_≡_};
@@ -21,6 +20,13 @@ pub struct Collected {
     pub count: u8,
     pub sum: u8,
     pub body: [u8; 255],
+}
+
+// A reply on its way out: its first len bytes, of which sent are out.
+pub struct Outgoing {
+    pub bytes: [u8; REPLY_LIMIT],
+    pub len: u8,
+    pub sent: u8,
 }
 
 pub struct Controller {

@@ -3,10 +3,13 @@
 use crate::bus::Controller;
 use crate::state::BusState;
 use crate::state::Step;
+use registers::REPLY_LIMIT;
+use settings::Settings;
 ghost use mathlib.Core.Path.{_≡_};
 ghost use mathlib.Core.List.{_++_};
 ghost use Prim.Native.Nat.{min};
 ghost use lib.ListN.{length, drop};
+ghost use Rattle.controller.specs.BusState.{assembled};
 ghost use Rattle.controller.specs.Run.{run, outs, exchanged};
 
 fn least(a: usize, b: usize) -> usize
@@ -18,18 +21,23 @@ fn least(a: usize, b: usize) -> usize
     b
 }
 
-// Exchanges the bytes of the input one after another, and puts those that the controller sends at the start of the output.
-// A byte that finds no room for the one sent out is not exchanged.
-pub fn exchange_all(controller: Controller, input: &[u8], output: &mut [u8]) -> Controller
-    ensures after { λ r. ⌜ r ≡ run controller (exchanged (now (input .entry)) (now (output .entry))) ⌝ }
-    ensures sent { λ _. ⌜ now (output .exit) ≡ outs controller (exchanged (now (input .entry)) (now (output .entry))) ++ drop (length (now (input .entry))) (now (output .entry)) ⌝ }
+// The run on a controller taken apart.
+fn exchange_parts(
+    start: BusState,
+    held: Settings,
+    packet: [u8; 255],
+    reply: [u8; REPLY_LIMIT],
+    input: &[u8],
+    output: &mut [u8],
+) -> Controller
+    ensures after { λ r. ⌜ r ≡ run (assembled start held packet reply) (exchanged (now (input .entry)) (now (output .entry))) ⌝ }
+    ensures sent { λ _. ⌜ now (output .exit) ≡ outs (assembled start held packet reply) (exchanged (now (input .entry)) (now (output .entry)))
+        ++ drop (length (now (input .entry))) (now (output .entry)) ⌝ }
 {
-    let packet = controller.packet;
-    let reply = controller.reply;
-    let mut body = packet.body;
-    let mut bytes = reply.bytes;
-    let mut settings = controller.settings;
-    let mut state = BusState::of(controller);
+    let mut state = start;
+    let mut settings = held;
+    let mut body = packet;
+    let mut bytes = reply;
     let n = least(input.len(), output.len());
     let mut i: usize = 0;
     while i < n {
@@ -41,15 +49,35 @@ pub fn exchange_all(controller: Controller, input: &[u8], output: &mut [u8]) -> 
             }
             Step::Checksum(sum) => {
                 let done = state.judged(sum, settings, &body);
-                let held = done.settings;
+                let after = done.settings;
                 let answer = done.reply;
                 let unsent = answer.bytes;
-                settings = held;
+                settings = after;
                 bytes = unsent;
-                state = state.ended(held, answer);
+                state = state.ended(after, answer);
             }
         }
         i += 1;
     }
     state.assembled(settings, body, bytes)
+}
+
+// Exchanges the bytes of the input one after another, and puts those that the controller sends at the start of the output.
+// A byte that finds no room for the one sent out is not exchanged.
+pub fn exchange_all(controller: Controller, input: &[u8], output: &mut [u8]) -> Controller
+    ensures after { λ r. ⌜ r ≡ run controller (exchanged (now (input .entry)) (now (output .entry))) ⌝ }
+    ensures sent { λ _. ⌜ now (output .exit) ≡ outs controller (exchanged (now (input .entry)) (now (output .entry))) ++ drop (length (now (input .entry))) (now (output .entry)) ⌝ }
+{
+    let packet = controller.packet;
+    let reply = controller.reply;
+    let body = packet.body;
+    let bytes = reply.bytes;
+    exchange_parts(
+        BusState::of(controller),
+        controller.settings,
+        body,
+        bytes,
+        input,
+        output,
+    )
 }

@@ -2,23 +2,28 @@
 // fast the loop over them is: docs/COMPARISON.md says what not to disturb.
 use crate::bus::Collected;
 use crate::bus::Controller;
+use crate::bus::Outgoing;
 use crate::bus::Phase;
+use crate::open_packet::add;
+use crate::open_packet::after_data;
+use crate::open_packet::after_length;
+use crate::open_packet::is_idle;
+use crate::open_packet::keep;
+use crate::open_packet::unescaped;
 use number::byte;
-use registers::Outgoing;
 use registers::Performed;
 use registers::REPLY_LIMIT;
+use registers::ReplyBytes;
 use registers::perform;
 use registers::response;
 use settings::Flag;
 use settings::Settings;
 use settings::StatusBytes;
-use std::num::wrapping_sub_u8;
 ghost use mathlib.Core.Path.{_≡_};
 ghost use mathlib.Core.List.{List};
 ghost use Prim.Native.Nat.{ℕ, _<_};
-ghost use lib.ListN.{set};
 ghost use Rattle.controller.specs.Bus as spec;
-ghost use Rattle.controller.specs.BusState.{state-of, alone, assembled, Steps, ended-with, unescaped as out-of-escape};
+ghost use Rattle.controller.specs.BusState.{state-of, alone, assembled, Steps, ended-with};
 
 // A controller but for its two arrays and its settings, of which it has the status bits.
 pub struct BusState {
@@ -36,85 +41,6 @@ pub struct BusState {
 pub enum Step {
     Next(BusState),
     Checksum(u8),
-}
-
-fn is_idle(phase: Phase) -> bool
-    ensures { λ r. ⌜ r ≡ spec.is-idle phase ⌝ }
-{
-    match phase {
-        Phase::Idle => true,
-        Phase::Command => false,
-        Phase::Length => false,
-        Phase::Data(_) => false,
-        Phase::Checksum => false,
-    }
-}
-
-fn add(sum: u8, byte: u8) -> u8
-    ensures { λ r. ⌜ r ≡ spec.add sum byte ⌝ }
-{
-    (((sum as u16) + (byte as u16)) % 256) as u8
-}
-
-fn after_length(count: u8) -> Phase
-    ensures { λ r. ⌜ r ≡ spec.after-length count ⌝ }
-{
-    if count == 0 {
-        return Phase::Checksum;
-    }
-    Phase::Data(count)
-}
-
-fn after_data(left: u8) -> Phase
-    ensures { λ r. ⌜ r ≡ spec.after-data left ⌝ }
-{
-    if left <= 1 {
-        return Phase::Checksum;
-    }
-    Phase::Data(left - 1)
-}
-
-// The byte that an escape stands for.
-fn unescaped(byte: u8) -> u8
-    ensures { λ r. ⌜ r ≡ out-of-escape byte ⌝ }
-{
-    if byte == 0x00 {
-        return 0xA5;
-    }
-    byte
-}
-
-// The place of the next data byte, of count where left are left.
-fn place(count: u8, left: u8) -> usize
-    ensures { λ r. ⌜ r ≡ spec.place count left ⌝ }
-{
-    if left <= count {
-        return (count - left) as usize;
-    }
-    0
-}
-
-// A value past the end is left out.
-fn put(body: &mut [u8], at: usize, value: u8)
-    ensures { λ _. ⌜ now (body .exit) ≡ set (now (body .entry)) at value ⌝ }
-{
-    if at < body.len() {
-        body[at] = value;
-        return;
-    }
-}
-
-// Keeps a data byte at its place. One test tells that the place is within the data, as in every controller that exchanges
-// lead to; the rest is for the others.
-fn keep(body: &mut [u8; 255], count: u8, left: u8, value: u8)
-    ensures { λ _. ⌜ now (body .exit) ≡ set (now (body .entry)) (spec.place count left) value ⌝ }
-{
-    if wrapping_sub_u8(left, 1) < count {
-        let at = (count - left) as usize;
-        body[at] = value;
-        return;
-    }
-    put(body, place(count, left), value);
 }
 
 impl BusState {
@@ -382,7 +308,7 @@ impl BusState {
         }
     }
 
-    pub(crate) fn ended(self, settings: Settings, reply: Outgoing) -> BusState
+    pub(crate) fn ended(self, settings: Settings, reply: ReplyBytes) -> BusState
         ensures { λ r. ⌜ r ≡ state-of (spec.ended (alone self) settings reply) ⌝ }
     {
         let status = settings.status;
@@ -393,7 +319,7 @@ impl BusState {
             count: self.count,
             sum: self.sum,
             len: reply.len,
-            sent: reply.sent,
+            sent: 0,
             status,
         }
     }

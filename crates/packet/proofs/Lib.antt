@@ -1,3 +1,4 @@
+pub mod Building
 pub mod Loops
 pub mod PacketLaws
 pub mod PacketTheorems

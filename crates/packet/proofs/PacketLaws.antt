@@ -1,6 +1,6 @@
 -- Theorems on the packet's definition.
 use mathlib.Core.Path.{_≡_, refl, sym}
-use mathlib.Core.List.{List, [], _∷_, _++_, append-assoc}
+use mathlib.Core.List.{List, [], _∷_, _++_, append-assoc, append-nil}
 use Prim.Native.Nat.{ℕ, _+_, _%_}
 use native.Mathlib.Nat.{zero-add, add-zero, add-assoc, mod-add-mod}
 use native.Mathlib.Omega.{arith}
@@ -42,3 +42,8 @@ escape-other b s e = rw (ne-eqb b 0xA5 s, ne-eqb b 0x5A e)
 pub fields-length : (k n : ℕ) (d : List ℕ) (s : ℕ) → length (fields k n d s) ≡ 1 + length (escape-byte k) + length (escape-byte n) + length (escape d) + length (escape-byte s)
 unfolding fields
 fields-length k n d s = simp length-append (omega arith)
+
+-- a packet is its start, and the escape of its fields
+pub fields-escape : (k n : ℕ) (d : List ℕ) (s : ℕ) → fields k n d s ≡ 0xA5 ∷ escape (k ∷ n ∷ d ++ s ∷ [])
+unfolding fields escape
+fields-escape k n d s = rw (escape-append d (s ∷ [])) (simp (append-assoc, append-nil))

@@ -1,17 +1,18 @@
 -- What the packet's definition is worth: escapes come out again, only the start is 0xA5, and a packet tells its command.
 use mathlib.Core.Path.{_≡_, refl, sym, ap, _∙_}
 use mathlib.Core.Bool.{Bool, true, false, cond}
-use mathlib.Core.List.{List, [], _∷_, _++_, append-assoc, append-nil, head-eq-of-cons-eq, tail-eq-of-cons-eq}
+use mathlib.Core.List.{List, [], _∷_, _++_, head-eq-of-cons-eq, tail-eq-of-cons-eq}
 use Prim.Native.Nat.{ℕ, zero, suc, _+_, _*_, _≤_}
 use native.Mathlib.Omega.{arith}
-use lib.ListN.{length, getD, take, replicate, length-append}
+use lib.ListN.{length, getD, take, length-append}
 use lib.Seq.{take-at}
-use lib.Dec.{eqb, leb}
-use borrow.Author.Tests.{eqb-true, eqb-false, leb-true, leb-false}
+use lib.Dec.{eqb, ltb}
+use borrow.Author.Tests.{eqb-true, eqb-false, ltb-true, ltb-false}
 use Rattle.packet.specs.declared.writer.Access.{Access}
 use Rattle.packet.specs.declared.writer.Access.the-variants.{Write, Read}
-use Rattle.packet.specs.Packet.{packet-limit, command-byte, total, checksum, escape-byte, escape, fields, packet-of, packet, unescape-from, unescape}
-use Rattle.packet.proofs.PacketLaws.{escape-start, escape-escape, escape-other, escape-append, fields-length}
+use Rattle.packet.specs.Packet.{data-most, packet-limit, command-byte, total, checksum, escape-byte, escape, fields, packet-of, unescape-from, unescape}
+use Rattle.packet.specs.Theorems.{UnescapeEscape, StartOnly, PacketDetermines, PacketShort, LongestReached}
+use Rattle.packet.proofs.PacketLaws.{escape-start, escape-escape, escape-other, fields-escape, fields-length}
 
 -- ---- taking the escapes out gives the bytes back
 
@@ -24,7 +25,7 @@ unescape-byte b rest = by-cases (eqb b 0xA5) refl (eqb b 0x5A) refl
     by-cases false e true f = rw (escape-escape b (eqb-true b 0x5A f), eqb-true b 0x5A f)
     by-cases false e false f = rw (escape-other b (eqb-false b 0xA5 e) (eqb-false b 0x5A f), f)
 
-pub unescape-escape : (bs : List ℕ) → unescape (escape bs) ≡ bs
+pub unescape-escape : UnescapeEscape
 unfolding escape unescape-from
 unescape-escape [] = refl
 unescape-escape (b ∷ bs) = unescape-byte b (escape bs) ∙ ap (λ (x : List ℕ). b ∷ x) (unescape-escape bs)
@@ -61,12 +62,7 @@ unfolding escape
 free-escape [] = free-nil
 free-escape (b ∷ bs) = free-append (escape-byte b) (escape bs) (free-byte b) (free-escape bs)
 
--- a packet is its start, and the escape of its fields
-fields-escape : (k n : ℕ) (d : List ℕ) (s : ℕ) → fields k n d s ≡ 0xA5 ∷ escape (k ∷ n ∷ d ++ s ∷ [])
-unfolding fields escape
-fields-escape k n d s = rw (escape-append d (s ∷ [])) (simp (append-assoc, append-nil))
-
-pub start-only : (id : ℕ) (access : Access) (bytes : List ℕ) (i : ℕ) → getD (packet id access bytes) i 0 ≡ 0xA5 → i ≡ 0
+pub start-only : StartOnly
 unfolding packet-of
 start-only id access bytes zero e = refl
 start-only id access bytes (suc i) e =
@@ -82,8 +78,7 @@ command-byte-determines id id′ Write Read e = absurd (omega arith)
 command-byte-determines id id′ Read Write e = absurd (omega arith)
 command-byte-determines id id′ Read Read e = (omega arith, refl)
 
-pub packet-determines : (id id′ : ℕ) (access access′ : Access) (bytes bytes′ : List ℕ) → packet id access bytes ≡ packet id′ access′ bytes′ →
-    (id ≡ id′) × (access ≡ access′) × (bytes ≡ bytes′)
+pub packet-determines : PacketDetermines
 unfolding packet-of
 packet-determines id id′ access access′ bytes bytes′ e =
     let k = command-byte id access in
@@ -104,9 +99,9 @@ packet-determines id id′ access access′ bytes bytes′ e =
           ∙ take-at bytes′ (s′ ∷ []) (length bytes) (sym count),
     )
 
--- ---- the longest packet: with 255 data bytes the length itself needs no escape
+-- ---- the longest packet: with the most data bytes the length byte needs no escape
 
-escape-byte-short : (b : ℕ) → length (escape-byte b) ≤ 2
+pub escape-byte-short : (b : ℕ) → length (escape-byte b) ≤ 2
 unfolding escape-byte
 escape-byte-short b = by-cases (eqb b 0xA5) (eqb b 0x5A)
   where
@@ -115,24 +110,22 @@ escape-byte-short b = by-cases (eqb b 0xA5) (eqb b 0x5A)
     by-cases false true = omega arith
     by-cases false false = omega arith
 
-escape-short : (bs : List ℕ) → length (escape bs) ≤ 2 * length bs
+pub escape-short : (bs : List ℕ) → length (escape bs) ≤ 2 * length bs
 unfolding escape
 escape-short [] = omega arith
 escape-short (b ∷ bs) = rw length-append (omega (arith, escape-byte-short b, escape-short bs))
 
--- at 255 data bytes the length byte is one byte
-count-short : (n : ℕ) → n ≤ 255 → length (escape-byte n) + 2 * n ≤ 511
+count-short : (n : ℕ) → n ≤ data-most → length (escape-byte n) + 2 * n ≤ 2 * data-most + 1
 unfolding escape-byte
-count-short n h = by-cases (leb n 254) refl
+count-short n h = by-cases (ltb n data-most) refl
   where
-    by-cases : (x : Bool) → leb n 254 ≡ x → length (escape-byte n) + 2 * n ≤ 511
-    by-cases true e = omega (arith, leb-true n 254 e, escape-byte-short n)
-    by-cases false e = let last : n ≡ 255 = omega (arith, leb-false n 254 e) in rw last (omega arith)
+    by-cases : (x : Bool) → ltb n data-most ≡ x → length (escape-byte n) + 2 * n ≤ 2 * data-most + 1
+    by-cases true e = omega (arith, ltb-true n data-most e, escape-byte-short n)
+    by-cases false e = let last : n ≡ data-most = omega (arith, ltb-false n data-most e) in rw last (omega arith)
 
-pub packet-short : (id : ℕ) (access : Access) (bytes : List ℕ) → length bytes ≤ 255 → length (packet id access bytes) ≤ packet-limit
+pub packet-of-short : (k : ℕ) (bytes : List ℕ) → length bytes ≤ data-most → length (packet-of k bytes) ≤ packet-limit
 unfolding packet-of
-packet-short id access bytes h =
-    let k = command-byte id access in
+packet-of-short k bytes h =
     let s = checksum (k ∷ length bytes ∷ bytes) in
     omega (
       arith,
@@ -143,10 +136,9 @@ packet-short id access bytes h =
       escape-byte-short s,
     )
 
--- a packet that reaches it: ID 2Dh has command byte 0x5A, and this data's checksum is 0xA5
-abbrev pub longest-data : List ℕ
-longest-data = replicate 50 0xA5 ++ replicate 205 0x5A
+pub packet-short : PacketShort
+packet-short id access = packet-of-short (command-byte id access)
 
-pub longest-reached : (length longest-data ≡ 255) × (length (packet 0x2D Write longest-data) ≡ packet-limit)
+pub longest-reached : LongestReached
 unfolding packet-of fields escape escape-byte checksum total
 longest-reached = (refl, refl)

@@ -9,7 +9,7 @@ use lib.Dec.{leb, eqb}
 use Rattle.packet.specs.declared.writer.Access.{Access}
 use Rattle.base.specs.Result.{refused, accepted}
 use Rattle.packet.specs.Packet.{checksum}
-use Rattle.packet.specs.Reply.{reserved, payload-at, after-response, reply-at}
+use Rattle.packet.specs.Reply.{reserved, payload-of, payload-at, after-response, reply-at}
 use Rattle.base.proofs.Lists.{drop-more}
 
 module _ (s : List ℕ) (at : ℕ) where
@@ -17,13 +17,17 @@ module _ (s : List ℕ) (at : ℕ) where
   unfolding payload-at
   payload-missing h = rw (drop-of-length-le s h)
 
-  pub payload-from : at < length s → payload-at at (drop at s) ≡
-      cond (leb (length s - (at + 1)) (getD s at 0)) (refused 12)
-      (cond (eqb (getD s (at + 1 + getD s at 0) 0) (checksum (0x01 ∷ getD s at 0 ∷ take (getD s at 0) (drop (at + 1) s))))
-      (accepted (record { response = 0x01; start = at + 1; count = getD s at 0; end = at + 1 + getD s at 0 + 1 }))
-      (refused 11))
+  pub payload-from : at < length s → payload-at at (drop at s) ≡ payload-of (getD s at 0) (at + 1) (drop (at + 1) s)
   unfolding payload-at
-  payload-from h = rw (drop-more s at h, length-drop (at + 1) s, getD-drop (at + 1) s (getD s at 0) 0)
+  payload-from h = rw (drop-more s at h)
+
+  pub payload-is : (m : ℕ) → payload-of m at (drop at s) ≡
+      cond (leb (length s - at) m) (refused 12)
+      (cond (eqb (getD s (at + m) 0) (checksum (0x01 ∷ m ∷ take m (drop at s))))
+      (accepted (record { response = 0x01; start = at; count = m; end = at + m + 1 }))
+      (refused 11))
+  unfolding payload-of
+  payload-is m = rw (length-drop at s, getD-drop at s m 0)
 
   pub reply-missing : (asked : Access) → length s ≤ at → reply-at asked at (drop at s) ≡ refused 12
   unfolding reply-at

@@ -9,7 +9,8 @@ use borrow.Author.Tests.{lt-leb, eq-eqb}
 use Rattle.packet.specs.declared.writer.Access.the-variants.{Read}
 use Rattle.base.specs.Result.{accepted}
 use Rattle.packet.specs.Packet.{checksum}
-use Rattle.packet.specs.Reply.{dummies, payload-at, after-response, reply-at, reply, success}
+use Rattle.packet.specs.Reply.{dummies, payload-of, payload-at, after-response, reply-at, success}
+use Rattle.packet.specs.Theorems.{SuccessRead}
 
 module _ (bytes after : List ℕ) where
   dummies-passed : (n : ℕ) → dummies (replicate n 0xFF ++ (success bytes ++ after)) ≡ n
@@ -23,13 +24,11 @@ module _ (bytes after : List ℕ) where
 
   success-found : (n : ℕ) → reply-at Read n (success bytes ++ after) ≡
       accepted (record { response = 0x01; start = n + 1 + 1; count = length bytes; end = n + 1 + 1 + length bytes + 1 })
-  unfolding reply-at after-response payload-at success
+  unfolding reply-at after-response payload-at payload-of success
   success-found n =
       let sum = checksum (0x01 ∷ length bytes ∷ bytes) in
       rw (append-assoc bytes (sum ∷ []) after, take-at bytes (sum ∷ after) (length bytes) refl, getD-at bytes sum after 0 (length bytes) refl)
       (simp (lt-leb (length (bytes ++ sum ∷ after)) (length bytes) (omega (arith, length-append bytes (sum ∷ after))), eq-eqb sum sum refl))
 
-  -- however many dummies stand before a good read's reply and whatever comes after it, the reader finds its data and its end
-  pub success-read : (n : ℕ) → reply Read (replicate n 0xFF ++ (success bytes ++ after)) ≡
-      accepted (record { response = 0x01; start = n + 1 + 1; count = length bytes; end = n + 1 + 1 + length bytes + 1 })
-  success-read n = rw (dummies-passed n, dummies-dropped n) (success-found n)
+pub success-read : SuccessRead
+success-read bytes after n = rw (dummies-passed bytes after n, dummies-dropped bytes after n) (success-found bytes after n)

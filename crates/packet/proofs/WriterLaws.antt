@@ -4,12 +4,13 @@ use mathlib.Core.Path.{_≡_}
 use mathlib.Core.List.{List}
 use lib.ListN.{length}
 use borrow.Author.Tests.{le-ltb}
-use Rattle.base.specs.Result.{accepted}
 use Rattle.packet.specs.declared.writer.Access.{Access}
-use Rattle.packet.specs.Packet.{packet}
-use Rattle.packet.specs.Writer.{written}
+use Rattle.packet.specs.Packet.{data-most, packet}
+use Rattle.packet.specs.Writer.{id-most, written}
+use Rattle.packet.specs.Steps.{fitting}
 
-pub written-whole : (id : ℕ) (access : Access) (bytes : List ℕ) (room : ℕ) → id ≤ 127 → length bytes ≤ 255 → length (packet id access bytes) ≤ room →
-    written id access bytes room ≡ accepted (packet id access bytes)
+-- with an ID and data that a packet takes, the room decides
+pub written-fitting : (id : ℕ) (access : Access) (bytes : List ℕ) (room : ℕ) → id ≤ id-most → length bytes ≤ data-most →
+    written id access bytes room ≡ fitting (packet id access bytes) room
 unfolding written
-written-whole id access bytes room i b p = simp (le-ltb 127 id i, le-ltb 255 (length bytes) b, le-ltb room (length (packet id access bytes)) p)
+written-fitting id access bytes room i b = simp (le-ltb id-most id i, le-ltb data-most (length bytes) b)

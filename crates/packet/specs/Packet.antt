@@ -7,7 +7,11 @@ use lib.Dec.{eqb}
 use Rattle.packet.specs.declared.writer.Access.{Access}
 use Rattle.packet.specs.declared.writer.Access.the-variants.{Write, Read}
 
--- the longest packet's length: `packet-short` and `longest-reached` in PacketTheorems
+-- a packet's most data bytes: the code's DATA_MOST, since a clause cannot name a constant of the code
+abbrev pub data-most : ℕ
+data-most = 255
+
+-- the longest packet's length, as `PacketShort` and `LongestReached` in Theorems say: the code's PACKET_LIMIT
 abbrev pub packet-limit : ℕ
 packet-limit = 516
 

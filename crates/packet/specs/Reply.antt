@@ -30,14 +30,18 @@ reserved b = eqb b 0x00 || eqb b 0x06 || (leb 0x09 b && leb b 0xFE)
 abbrev pub response-only : ℕ → ℕ → Reply
 response-only response at = record { response = response; start = at; count = 0; end = at }
 
--- what follows response 01 where a read was asked: a length m at offset `at`, m data bytes, and the sum of these and the response
-unfoldable pub payload-at : ℕ → List ℕ → Result Reply
-payload-at at [] = refused 12
-payload-at at (m ∷ bytes) =
+-- m data bytes from offset `start` on, where `bytes` begin, and the sum of response 01, m and these
+unfoldable pub payload-of : ℕ → ℕ → List ℕ → Result Reply
+payload-of m start bytes =
     cond (leb (length bytes) m) (refused 12)
     (cond (eqb (getD bytes m 0) (checksum (0x01 ∷ m ∷ take m bytes)))
-    (accepted (record { response = 0x01; start = at + 1; count = m; end = at + 1 + m + 1 }))
+    (accepted (record { response = 0x01; start = start; count = m; end = start + m + 1 }))
     (refused 11))
+
+-- what follows response 01 where a read was asked: a length at offset `at`, and as many data bytes
+unfoldable pub payload-at : ℕ → List ℕ → Result Reply
+payload-at at [] = refused 12
+payload-at at (m ∷ bytes) = payload-of m (at + 1) bytes
 
 -- the whole reply to a read that succeeds
 unfoldable pub success : List ℕ → List ℕ

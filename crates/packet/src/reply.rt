@@ -6,7 +6,7 @@ ghost use mathlib.Core.Path.{_≡_};
 ghost use Prim.Native.Nat.{_≤_};
 ghost use lib.ListN.{length, drop};
 ghost use Rattle.base.specs.Result.{accepted};
-ghost use Rattle.packet.specs.Reply.{answer, reply, response-only, dummies as dummies-of, reserved as reserved-of, after-response, payload-at};
+ghost use Rattle.packet.specs.Reply.{answer, reply, reply-at, response-only, dummies as dummies-of, reserved as reserved-of, after-response, payload-at, payload-of};
 
 // A reply found in bytes: its data are bytes[start..start + count], and it ends before bytes[end].
 pub struct Reply {
@@ -25,7 +25,13 @@ pub enum ReplyRead {
 pub fn read_reply(asked: Access, bytes: &[u8]) -> ReplyRead
     ensures { λ r. ⌜ answer r ≡ reply asked (now (bytes .entry)) ⌝ }
 {
-    let at = dummies(bytes);
+    reply_at(asked, bytes, dummies(bytes))
+}
+
+// The reply that begins at bytes[at].
+fn reply_at(asked: Access, bytes: &[u8], at: usize) -> ReplyRead
+    ensures { λ r. ⌜ answer r ≡ reply-at asked at (drop at (now (bytes .entry))) ⌝ }
+{
     if bytes.len() <= at {
         return ReplyRead::Refused(Refusal::IncompleteReply);
     }
@@ -97,9 +103,14 @@ fn payload(bytes: &[u8], at: usize) -> ReplyRead
     if bytes.len() <= at {
         return ReplyRead::Refused(Refusal::IncompleteReply);
     }
-    let m = bytes[at];
+    payload_of(bytes[at], bytes, at + 1)
+}
+
+fn payload_of(m: u8, bytes: &[u8], start: usize) -> ReplyRead
+    requires { ⌜ start ≤ length (now bytes) ⌝ }
+    ensures { λ r. ⌜ answer r ≡ payload-of m start (drop start (now (bytes .entry))) ⌝ }
+{
     let count = m as usize;
-    let start = at + 1;
     if bytes.len() - start <= count {
         return ReplyRead::Refused(Refusal::IncompleteReply);
     }

@@ -1,88 +1,124 @@
--- Theorems on the settings block.
+-- The theorems on the settings block.
 use Prim.Native.Nat.{ℕ, _<_}
 use native.Mathlib.Omega.{arith}
 use mathlib.Core.Path.{_≡_, refl, ap, _∙_}
-use mathlib.Core.Bool.{true}
 use mathlib.Core.List.{List}
-use lib.ListN.{length, getD, drop}
+use lib.ListN.{drop}
 use lib.IntN.{ℤ, natAbs}
+use mathlib.Core.Bool.{true}
 use lib.Dec.{leb}
-use borrow.Author.Tests.{leb-true}
+use borrow.Author.Tests.{leb-true, le-leb}
 use Rattle.number.proofs.NumberLaws.{le16-read}
 use Rattle.number.specs.Signed.{offset, magnitude, sign}
 use Rattle.number.proofs.SignedLaws.{magnitude-range, sign-range, natAbs-offset, offset-read}
 use Rattle.settings.specs.Settings.{fresh}
-use Rattle.registers.specs.Commands.{offset-bytes, offset-from}
 use Rattle.settings.specs.declared.settings.Settings.{Settings}
-use Rattle.registers.specs.Block.{block, from-block, in-range, Held}
+use Rattle.settings.specs.declared.settings.Switches.{Switches}
+use Rattle.registers.specs.Commands.{switch-limit, strength-limit, offset-bytes, switches-from, offset-from, bezel-from, area-from, status-from}
+use Rattle.registers.specs.Block.{
+  switches-at,
+  heater-at,
+  bezel-at,
+  pixels-at,
+  status-at,
+  block,
+  from-block,
+  switches-in-range,
+  in-range,
+  SwitchesHeld,
+  OffsetsHeld,
+  AreaHeld,
+  StatusHeld,
+  Held,
+}
+use Rattle.registers.specs.Theorems.{BlockLong, BlockRead, FromBlockHeld, BlockBytes}
 use Rattle.base.specs.Bytes.{Bytes}
 use Rattle.base.proofs.ByteLaws.{bytes-each, bytes-drop}
 use Rattle.base.proofs.Tests.{both-true}
 use Rattle.number.proofs.NumberLaws.{le16-below}
 
-pub block-long : (σ : Settings) → length (block σ) ≡ 27
+pub block-long : BlockLong
 unfolding block
 block-long σ = refl
 
 offset-read-bytes : (z : ℤ) → natAbs z < 65536 → offset-from (offset-bytes z) ≡ z
 offset-read-bytes z h = ap (λ (x : ℕ). offset x (sign z)) (le16-read (magnitude z) (magnitude-range z)) ∙ offset-read z h
 
--- what a block says is what it was made of
-pub block-read : (σ : Settings) → Held σ → from-block (block σ) ≡ σ
+pub block-read : BlockRead
 unfolding block from-block
 block-read σ h =
     let level = le16-read (σ .backlight) (h .backlight) in
-    let khz = le16-read (σ .heater .khz) (h .khz) in
-    let horizontal = offset-read-bytes (σ .bezel .horizontal) (h .horizontal) in
-    let vertical = offset-read-bytes (σ .bezel .vertical) (h .vertical) in
-    let x0 = le16-read (σ .pixels .x0) (h .x0) in
-    let y0 = le16-read (σ .pixels .y0) (h .y0) in
-    let x1 = le16-read (σ .pixels .x1) (h .x1) in
-    let y1 = le16-read (σ .pixels .y1) (h .y1) in
+    let khz = le16-read (σ .heater .khz) (h .heater .khz) in
+    let horizontal = offset-read-bytes (σ .bezel .horizontal) (h .bezel .horizontal) in
+    let vertical = offset-read-bytes (σ .bezel .vertical) (h .bezel .vertical) in
+    let x0 = le16-read (σ .pixels .x0) (h .pixels .x0) in
+    let y0 = le16-read (σ .pixels .y0) (h .pixels .y0) in
+    let x1 = le16-read (σ .pixels .x1) (h .pixels .x1) in
+    let y1 = le16-read (σ .pixels .y1) (h .pixels .y1) in
     λ i. record {
       backlight = level i;
-      master = σ .master;
-      park = σ .park;
-      splash = σ .splash;
-      strength = σ .strength;
+      switches = σ .switches;
       heater = record { khz = khz i; duty = σ .heater .duty };
       bezel = record { horizontal = horizontal i; vertical = vertical i };
       pixels = record { x0 = x0 i; y0 = y0 i; x1 = x1 i; y1 = y1 i };
       status = σ .status;
     }
 
+-- ---- bytes say numbers that fit
+
 pub offset-below : (d : List ℕ) → Bytes d → natAbs (offset-from d) < 65536
 offset-below d h = rw natAbs-offset (le16-below d h)
 
--- bytes whose settings are in range say settings that a controller could hold
-pub from-block-held : (d : List ℕ) → Bytes d → in-range (from-block d) ≡ true → Held (from-block d)
-unfolding from-block
-from-block-held d h e =
-    let duty = both-true _ (leb (getD (drop 6 d) 2 0) 100) e in
-    let strength = both-true _ (leb (getD d 5 0) 2) (duty .0) in
-    let splash = both-true _ (leb (getD d 4 0) 1) (strength .0) in
-    let park = both-true (leb (getD d 2 0) 1) (leb (getD d 3 0) 1) (splash .0) in
+module _ (d : List ℕ) (h : Bytes d) where
+  pub bezel-from-held : OffsetsHeld (bezel-from d)
+  bezel-from-held = record { horizontal = offset-below d h; vertical = offset-below (drop 3 d) (bytes-drop 3 d h) }
+
+  pub area-from-held : AreaHeld (area-from d)
+  area-from-held =
+      record {
+        x0 = le16-below d h;
+        y0 = le16-below (drop 2 d) (bytes-drop 2 d h);
+        x1 = le16-below (drop 4 d) (bytes-drop 4 d h);
+        y1 = le16-below (drop 6 d) (bytes-drop 6 d h);
+      }
+
+  status-from-held : StatusHeld (status-from d)
+  status-from-held = record { first = h 0; second = h 1; third = h 2; fourth = h 3 }
+
+-- ---- settings in range
+
+switches-held : (w : Switches) → switches-in-range w ≡ true → SwitchesHeld w
+switches-held w e =
+    let strength = both-true _ (leb (w .strength) strength-limit) e in
+    let splash = both-true _ (leb (w .splash) switch-limit) (strength .0) in
+    let park = both-true (leb (w .master) switch-limit) (leb (w .park) switch-limit) (splash .0) in
     record {
-      backlight = le16-below d h;
       master = leb-true _ _ (park .0);
       park = leb-true _ _ (park .1);
       splash = leb-true _ _ (splash .1);
       strength = leb-true _ _ (strength .1);
-      khz = le16-below (drop 6 d) (bytes-drop 6 d h);
-      duty = leb-true _ _ (duty .1);
-      horizontal = offset-below (drop 9 d) (bytes-drop 9 d h);
-      vertical = offset-below (drop 3 (drop 9 d)) (bytes-drop 3 (drop 9 d) (bytes-drop 9 d h));
-      x0 = le16-below (drop 15 d) (bytes-drop 15 d h);
-      y0 = le16-below (drop 2 (drop 15 d)) (bytes-drop 2 (drop 15 d) (bytes-drop 15 d h));
-      x1 = le16-below (drop 4 (drop 15 d)) (bytes-drop 4 (drop 15 d) (bytes-drop 15 d h));
-      y1 = le16-below (drop 6 (drop 15 d)) (bytes-drop 6 (drop 15 d) (bytes-drop 15 d h));
-      first = bytes-drop 23 d h 0;
-      second = bytes-drop 23 d h 1;
-      third = bytes-drop 23 d h 2;
-      fourth = bytes-drop 23 d h 3;
     }
 
-pub block-bytes : (σ : Settings) → Held σ → Bytes (block σ)
+pub from-block-held : FromBlockHeld
+unfolding from-block
+from-block-held d h e =
+    let ranges = both-true (switches-in-range (switches-from (drop switches-at d))) _ e in
+    record {
+      backlight = le16-below d h;
+      switches = switches-held _ (ranges .0);
+      heater = record { khz = le16-below (drop heater-at d) (bytes-drop heater-at d h); duty = leb-true _ _ (ranges .1) };
+      bezel = bezel-from-held (drop bezel-at d) (bytes-drop bezel-at d h);
+      pixels = area-from-held (drop pixels-at d) (bytes-drop pixels-at d h);
+      status = status-from-held (drop status-at d) (bytes-drop status-at d h);
+    }
+
+-- settings that a controller could hold are in range
+pub held-in-range : (σ : Settings) → Held σ → in-range σ ≡ true
+held-in-range σ h =
+    let w = h .switches in
+    rw (le-leb _ _ (w .master), le-leb _ _ (w .park), le-leb _ _ (w .splash), le-leb _ _ (w .strength), le-leb _ _ (h .heater .duty))
+
+pub block-bytes : BlockBytes
 unfolding block
 block-bytes σ h = bytes-each (block σ) (search (arith, sign-range (σ .bezel .horizontal), sign-range (σ .bezel .vertical)))
 

@@ -1,54 +1,97 @@
 // The settings block of WELCOME.
+use crate::fields::DUTY_LIMIT;
+use crate::fields::STRENGTH_LIMIT;
+use crate::fields::SWITCH_LIMIT;
 use crate::fields::area_bytes;
 use crate::fields::area_from;
 use crate::fields::bezel_bytes;
 use crate::fields::bezel_from;
+use crate::fields::heater_bytes;
 use crate::fields::heater_from;
 use crate::fields::status_bytes;
 use crate::fields::status_from;
+use crate::fields::switches_from;
 use base::store;
-use number::byte;
 use number::high;
 use number::le16;
 use number::low;
-use number::rest;
+use settings::Area;
 use settings::Settings;
+use settings::StatusBytes;
+use settings::Switches;
 ghost use mathlib.Core.Path.{_≡_};
+ghost use lib.Seq.{sets};
+ghost use Rattle.registers.specs.Commands as commands;
 ghost use Rattle.registers.specs.Block as spec;
+
+// Where the parts begin; the backlight is first.
+const SWITCHES_AT: usize = 2;
+
+const HEATER_AT: usize = 6;
+
+const BEZEL_AT: usize = 9;
+
+const PIXELS_AT: usize = 15;
+
+const STATUS_AT: usize = 23;
 
 // A settings block's length.
 pub const BLOCK: usize = 27;
 
-// Backlight to heater.
-fn register_bytes(settings: Settings) -> [u8; 9]
-    ensures { λ r. ⌜ r ≡ spec.register-bytes settings ⌝ }
+// All before the test pixels.
+fn front_bytes(settings: Settings) -> [u8; PIXELS_AT]
+    ensures { λ r. ⌜ r ≡ spec.front-bytes settings ⌝ }
 {
-    let heater = settings.heater;
+    let switches = settings.switches;
+    let heater = heater_bytes(settings.heater);
+    let bezel = bezel_bytes(settings.bezel);
     [
         low(settings.backlight),
         high(settings.backlight),
-        settings.master,
-        settings.park,
-        settings.splash,
-        settings.strength,
-        low(heater.khz),
-        high(heater.khz),
-        heater.duty,
+        switches.master,
+        switches.park,
+        switches.splash,
+        switches.strength,
+        heater[0],
+        heater[1],
+        heater[2],
+        bezel[0],
+        bezel[1],
+        bezel[2],
+        bezel[3],
+        bezel[4],
+        bezel[5],
     ]
+}
+
+fn store_front(settings: Settings, out: &mut [u8; BLOCK])
+    ensures { λ _. ⌜ now (out .exit) ≡ sets (now (out .entry)) 0 (spec.front-bytes settings) ⌝ }
+{
+    let b = front_bytes(settings);
+    store(&b, out, 0);
+}
+
+fn store_pixels(a: Area, out: &mut [u8; BLOCK])
+    ensures { λ _. ⌜ now (out .exit) ≡ sets (now (out .entry)) spec.pixels-at (commands.area-bytes a) ⌝ }
+{
+    let b = area_bytes(a);
+    store(&b, out, PIXELS_AT);
+}
+
+fn store_status(s: StatusBytes, out: &mut [u8; BLOCK])
+    ensures { λ _. ⌜ now (out .exit) ≡ sets (now (out .entry)) spec.status-at (commands.status-bytes s) ⌝ }
+{
+    let b = status_bytes(s);
+    store(&b, out, STATUS_AT);
 }
 
 pub fn block(settings: Settings) -> [u8; BLOCK]
     ensures { λ r. ⌜ r ≡ spec.block settings ⌝ }
 {
-    let registers = register_bytes(settings);
-    let bezel = bezel_bytes(settings.bezel);
-    let pixels = area_bytes(settings.pixels);
-    let status = status_bytes(settings.status);
     let mut out = [0; BLOCK];
-    store(&registers, &mut out, 0);
-    store(&bezel, &mut out, 9);
-    store(&pixels, &mut out, 15);
-    store(&status, &mut out, 23);
+    store_front(settings, &mut out);
+    store_pixels(settings.pixels, &mut out);
+    store_status(settings.status, &mut out);
     out
 }
 
@@ -57,13 +100,36 @@ pub fn from_block(bytes: &[u8]) -> Settings
 {
     Settings {
         backlight: le16(bytes),
-        master: byte(bytes, 2),
-        park: byte(bytes, 3),
-        splash: byte(bytes, 4),
-        strength: byte(bytes, 5),
-        heater: heater_from(rest(bytes, 6)),
-        bezel: bezel_from(rest(bytes, 9)),
-        pixels: area_from(rest(bytes, 15)),
-        status: status_from(rest(bytes, 23)),
+        switches: switches_from(bytes, SWITCHES_AT),
+        heater: heater_from(bytes, HEATER_AT),
+        bezel: bezel_from(bytes, BEZEL_AT),
+        pixels: area_from(bytes, PIXELS_AT),
+        status: status_from(bytes, STATUS_AT),
     }
+}
+
+fn switches_in_range(switches: Switches) -> bool
+    ensures { λ r. ⌜ r ≡ spec.switches-in-range switches ⌝ }
+{
+    if SWITCH_LIMIT < switches.master {
+        return false;
+    }
+    if SWITCH_LIMIT < switches.park {
+        return false;
+    }
+    if SWITCH_LIMIT < switches.splash {
+        return false;
+    }
+    switches.strength <= STRENGTH_LIMIT
+}
+
+// Whether a controller could hold these settings.
+pub fn in_range(settings: Settings) -> bool
+    ensures { λ r. ⌜ r ≡ spec.in-range settings ⌝ }
+{
+    let heater = settings.heater;
+    if switches_in_range(settings.switches) {
+        return heater.duty <= DUTY_LIMIT;
+    }
+    false
 }

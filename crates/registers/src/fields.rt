@@ -1,4 +1,4 @@
-// Registers of more than one field, in bytes and back.
+// The parts of the settings in bytes and back, and the largest values of those that have a limit.
 use number::byte;
 use number::high;
 use number::le16;
@@ -11,36 +11,60 @@ use settings::Area;
 use settings::HeaterDrive;
 use settings::Offsets;
 use settings::StatusBytes;
+use settings::Switches;
 ghost use mathlib.Core.Path.{_≡_};
+ghost use lib.ListN.{drop};
+ghost use Rattle.number.specs.Number as number-spec;
 ghost use Rattle.registers.specs.Commands as spec;
+
+// Of master, park and splash mode.
+pub(crate) const SWITCH_LIMIT: u8 = 1;
+
+pub(crate) const STRENGTH_LIMIT: u8 = 2;
+
+pub(crate) const DUTY_LIMIT: u8 = 100;
+
+pub(crate) fn heater_bytes(h: HeaterDrive) -> [u8; 3]
+    ensures { λ r. ⌜ r ≡ spec.heater-bytes h ⌝ }
+{
+    [low(h.khz), high(h.khz), h.duty]
+}
+
+fn offset_bytes(z: i32) -> [u8; 3]
+    ensures { λ r. ⌜ r ≡ spec.offset-bytes z ⌝ }
+{
+    let amount = magnitude(z);
+    [low(amount), high(amount), sign(z)]
+}
 
 pub(crate) fn bezel_bytes(o: Offsets) -> [u8; 6]
     ensures { λ r. ⌜ r ≡ spec.bezel-bytes o ⌝ }
 {
-    let x = magnitude(o.horizontal);
-    let y = magnitude(o.vertical);
-    [
-        low(x),
-        high(x),
-        sign(o.horizontal),
-        low(y),
-        high(y),
-        sign(o.vertical),
-    ]
+    let h = offset_bytes(o.horizontal);
+    let v = offset_bytes(o.vertical);
+    [h[0], h[1], h[2], v[0], v[1], v[2]]
+}
+
+fn point_bytes(x: u16, y: u16) -> [u8; 4]
+    ensures { λ r. ⌜ r ≡ spec.point-bytes x y ⌝ }
+{
+    [low(x), high(x), low(y), high(y)]
 }
 
 pub(crate) fn area_bytes(a: Area) -> [u8; 8]
     ensures { λ r. ⌜ r ≡ spec.area-bytes a ⌝ }
 {
+    let start = point_bytes(a.x0, a.y0);
+    let end = point_bytes(a.x1, a.y1);
     [
-        low(a.x0),
-        high(a.x0),
-        low(a.y0),
-        high(a.y0),
-        low(a.x1),
-        high(a.x1),
-        low(a.y1),
-        high(a.y1),
+        start[0],
+        start[1],
+        start[2],
+        start[3],
+        end[0],
+        end[1],
+        end[2],
+        end[3],
     ]
 }
 
@@ -50,48 +74,73 @@ pub(crate) fn status_bytes(s: StatusBytes) -> [u8; 4]
     [s.first, s.second, s.third, s.fourth]
 }
 
-pub(crate) fn heater_from(bytes: &[u8]) -> HeaterDrive
-    ensures { λ r. ⌜ r ≡ spec.heater-from (now (bytes .entry)) ⌝ }
+// The parts are read from a place on.
+
+pub(crate) fn switches_from(bytes: &[u8], at: usize) -> Switches
+    ensures { λ r. ⌜ r ≡ spec.switches-from (drop at (now (bytes .entry))) ⌝ }
 {
+    let part = rest(bytes, at);
+    Switches {
+        master: byte(part, 0),
+        park: byte(part, 1),
+        splash: byte(part, 2),
+        strength: byte(part, 3),
+    }
+}
+
+pub(crate) fn heater_from(bytes: &[u8], at: usize) -> HeaterDrive
+    ensures { λ r. ⌜ r ≡ spec.heater-from (drop at (now (bytes .entry))) ⌝ }
+{
+    let part = rest(bytes, at);
     HeaterDrive {
-        khz: le16(bytes),
-        duty: byte(bytes, 2),
+        khz: le16(part),
+        duty: byte(part, 2),
     }
 }
 
-fn offset_from(bytes: &[u8]) -> i32
-    ensures { λ r. ⌜ r ≡ spec.offset-from (now (bytes .entry)) ⌝ }
+fn offset_from(bytes: &[u8], at: usize) -> i32
+    ensures { λ r. ⌜ r ≡ spec.offset-from (drop at (now (bytes .entry))) ⌝ }
 {
-    offset(le16(bytes), byte(bytes, 2))
+    let part = rest(bytes, at);
+    offset(le16(part), byte(part, 2))
 }
 
-pub(crate) fn bezel_from(bytes: &[u8]) -> Offsets
-    ensures { λ r. ⌜ r ≡ spec.bezel-from (now (bytes .entry)) ⌝ }
+pub(crate) fn bezel_from(bytes: &[u8], at: usize) -> Offsets
+    ensures { λ r. ⌜ r ≡ spec.bezel-from (drop at (now (bytes .entry))) ⌝ }
 {
+    let part = rest(bytes, at);
     Offsets {
-        horizontal: offset_from(bytes),
-        vertical: offset_from(rest(bytes, 3)),
+        horizontal: offset_from(part, 0),
+        vertical: offset_from(part, 3),
     }
 }
 
-pub(crate) fn area_from(bytes: &[u8]) -> Area
-    ensures { λ r. ⌜ r ≡ spec.area-from (now (bytes .entry)) ⌝ }
+fn le16_from(bytes: &[u8], at: usize) -> u16
+    ensures { λ r. ⌜ r ≡ number-spec.le16 (drop at (now (bytes .entry))) ⌝ }
 {
+    le16(rest(bytes, at))
+}
+
+pub(crate) fn area_from(bytes: &[u8], at: usize) -> Area
+    ensures { λ r. ⌜ r ≡ spec.area-from (drop at (now (bytes .entry))) ⌝ }
+{
+    let part = rest(bytes, at);
     Area {
-        x0: le16(bytes),
-        y0: le16(rest(bytes, 2)),
-        x1: le16(rest(bytes, 4)),
-        y1: le16(rest(bytes, 6)),
+        x0: le16_from(part, 0),
+        y0: le16_from(part, 2),
+        x1: le16_from(part, 4),
+        y1: le16_from(part, 6),
     }
 }
 
-pub(crate) fn status_from(bytes: &[u8]) -> StatusBytes
-    ensures { λ r. ⌜ r ≡ spec.status-from (now (bytes .entry)) ⌝ }
+pub(crate) fn status_from(bytes: &[u8], at: usize) -> StatusBytes
+    ensures { λ r. ⌜ r ≡ spec.status-from (drop at (now (bytes .entry))) ⌝ }
 {
+    let part = rest(bytes, at);
     StatusBytes {
-        first: byte(bytes, 0),
-        second: byte(bytes, 1),
-        third: byte(bytes, 2),
-        fourth: byte(bytes, 3),
+        first: byte(part, 0),
+        second: byte(part, 1),
+        third: byte(part, 2),
+        fourth: byte(part, 3),
     }
 }

@@ -2,15 +2,19 @@
 mod block_bytes;
 mod command;
 mod fields;
+mod lookup;
+mod reads;
+mod reply;
+mod writes;
 
 pub use block_bytes::BLOCK;
 pub use block_bytes::block;
 pub use block_bytes::from_block;
-pub use command::Lookup;
-pub use command::Outgoing;
-pub use command::Performed;
-pub use command::REPLY_LIMIT;
-pub use command::Register;
-pub use command::access;
+pub use block_bytes::in_range;
 pub use command::perform;
-pub use command::response;
+pub use lookup::Lookup;
+pub use lookup::Register;
+pub use reply::Performed;
+pub use reply::REPLY_LIMIT;
+pub use reply::ReplyBytes;
+pub use reply::response;

@@ -1,5 +1,5 @@
 -- Setting a status bit sets that bit and no other.
-use Prim.Native.Nat.{ℕ, _/_, _%_, _^_, _<_}
+use Prim.Native.Nat.{ℕ, _^_}
 use mathlib.Core.Path.{_≡_, refl}
 use mathlib.Core.Bool.{Bool, cond}
 use lib.Dec.{T, eqb, eqb→eq}
@@ -7,10 +7,7 @@ use Rattle.base.proofs.Tests.{all-below, below-each}
 use Rattle.settings.specs.declared.settings.Settings.{Settings}
 use Rattle.settings.specs.declared.settings.Flag.{Flag}
 use Rattle.settings.specs.Settings.{set-bit, flagged, cleared}
-
--- bit j of a byte
-abbrev pub bit : ℕ → ℕ → ℕ
-bit j b = b / 2 ^ j % 2
+use Rattle.settings.specs.Theorems.{bit, SetBitSets}
 
 abbrev sets-one : ℕ → ℕ → ℕ → Bool
 sets-one b k j = eqb (bit j (set-bit b (2 ^ k))) (cond (eqb j k) 1 (bit j b))
@@ -19,7 +16,7 @@ all-bytes : T (all-below 256 (λ b. all-below 8 (λ k. all-below 8 (λ j. sets-o
 unfolding all-below set-bit
 all-bytes = tt
 
-pub set-bit-sets : (b k j : ℕ) → b < 256 → k < 8 → j < 8 → bit j (set-bit b (2 ^ k)) ≡ cond (eqb j k) 1 (bit j b)
+pub set-bit-sets : SetBitSets
 set-bit-sets b k j hb hk hj = eqb→eq _ _ (below-each 8 _ (below-each 8 _ (below-each 256 _ all-bytes b hb) k hk) j hj)
 
 -- a status bit changes no other register

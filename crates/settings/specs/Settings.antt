@@ -1,9 +1,13 @@
--- The fresh settings, and the status bits: document 01, "Status bits".
+-- The settings, their setters, the fresh settings, and the status bits: document 01, "Status bits".
 use Prim.Native.Nat.{ℕ, _+_, _-_, _/_, _%_}
 use mathlib.Core.Bool.{cond}
 use lib.IntN.{pos}
 use lib.Dec.{eqb, leb}
 use Rattle.settings.specs.declared.settings.Settings.{Settings}
+use Rattle.settings.specs.declared.settings.Switches.{Switches}
+use Rattle.settings.specs.declared.settings.HeaterDrive.{HeaterDrive}
+use Rattle.settings.specs.declared.settings.Offsets.{Offsets}
+use Rattle.settings.specs.declared.settings.Area.{Area}
 use Rattle.settings.specs.declared.settings.StatusBytes.{StatusBytes}
 use Rattle.settings.specs.declared.settings.Flag.{Flag}
 use Rattle.settings.specs.declared.settings.Flag.the-variants.{
@@ -16,6 +20,43 @@ use Rattle.settings.specs.declared.settings.Flag.the-variants.{
   BytesIgnored,
   WrongChecksum,
 }
+
+-- ---- the settings with one part of them changed
+
+abbrev settings-of : ℕ → Switches → HeaterDrive → Offsets → Area → StatusBytes → Settings
+settings-of l w h o a s = record { backlight = l; switches = w; heater = h; bezel = o; pixels = a; status = s }
+
+abbrev pub with-backlight : Settings → ℕ → Settings
+with-backlight σ v = settings-of v (σ .switches) (σ .heater) (σ .bezel) (σ .pixels) (σ .status)
+
+abbrev pub with-switches : Settings → Switches → Settings
+with-switches σ v = settings-of (σ .backlight) v (σ .heater) (σ .bezel) (σ .pixels) (σ .status)
+
+abbrev pub with-heater : Settings → HeaterDrive → Settings
+with-heater σ v = settings-of (σ .backlight) (σ .switches) v (σ .bezel) (σ .pixels) (σ .status)
+
+abbrev pub with-bezel : Settings → Offsets → Settings
+with-bezel σ v = settings-of (σ .backlight) (σ .switches) (σ .heater) v (σ .pixels) (σ .status)
+
+abbrev pub with-pixels : Settings → Area → Settings
+with-pixels σ v = settings-of (σ .backlight) (σ .switches) (σ .heater) (σ .bezel) v (σ .status)
+
+abbrev pub with-status : Settings → StatusBytes → Settings
+with-status σ v = settings-of (σ .backlight) (σ .switches) (σ .heater) (σ .bezel) (σ .pixels) v
+
+abbrev pub with-master : Switches → ℕ → Switches
+with-master w v = record { master = v; park = w .park; splash = w .splash; strength = w .strength }
+
+abbrev pub with-park : Switches → ℕ → Switches
+with-park w v = record { master = w .master; park = v; splash = w .splash; strength = w .strength }
+
+abbrev pub with-splash : Switches → ℕ → Switches
+with-splash w v = record { master = w .master; park = w .park; splash = v; strength = w .strength }
+
+abbrev pub with-strength : Switches → ℕ → Switches
+with-strength w v = record { master = w .master; park = w .park; splash = w .splash; strength = v }
+
+-- ---- the status bits
 
 -- a byte with the bit of this weight set
 unfoldable pub set-bit : ℕ → ℕ → ℕ
@@ -40,20 +81,6 @@ with-flag s WrongLength = in-fourth s 0x40
 with-flag s BytesIgnored = in-fourth s 0x20
 with-flag s WrongChecksum = in-fourth s 0x10
 
-abbrev pub with-status : Settings → StatusBytes → Settings
-with-status σ v =
-    record {
-      backlight = σ .backlight;
-      master = σ .master;
-      park = σ .park;
-      splash = σ .splash;
-      strength = σ .strength;
-      heater = σ .heater;
-      bezel = σ .bezel;
-      pixels = σ .pixels;
-      status = v;
-    }
-
 unfoldable pub flagged : Settings → Flag → Settings
 flagged σ flag = with-status σ (with-flag (σ .status) flag)
 
@@ -64,15 +91,13 @@ no-flags = record { first = 0; second = 0; third = 0; fourth = 0 }
 abbrev pub cleared : Settings → Settings
 cleared σ = with-status σ no-flags
 
--- master on, all else 0
+-- ---- master on, all else 0
+
 abbrev pub fresh : Settings
 fresh =
     record {
       backlight = 0;
-      master = 1;
-      park = 0;
-      splash = 0;
-      strength = 0;
+      switches = record { master = 1; park = 0; splash = 0; strength = 0 };
       heater = record { khz = 0; duty = 0 };
       bezel = record { horizontal = pos 0; vertical = pos 0 };
       pixels = record { x0 = 0; y0 = 0; x1 = 0; y1 = 0 };

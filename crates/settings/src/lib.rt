@@ -7,3 +7,4 @@ pub use settings::HeaterDrive;
 pub use settings::Offsets;
 pub use settings::Settings;
 pub use settings::StatusBytes;
+pub use settings::Switches;

@@ -3,6 +3,14 @@ ghost use mathlib.Core.Path.{_≡_};
 ghost use Prim.Native.Nat.{_<_};
 ghost use Rattle.settings.specs.Settings as spec;
 
+// Registers of one byte: master, park, splash mode and drive strength.
+pub struct Switches {
+    pub master: u8,
+    pub park: u8,
+    pub splash: u8,
+    pub strength: u8,
+}
+
 pub struct HeaterDrive {
     pub khz: u16,
     pub duty: u8,
@@ -31,10 +39,7 @@ pub struct StatusBytes {
 
 pub struct Settings {
     pub backlight: u16,
-    pub master: u8,
-    pub park: u8,
-    pub splash: u8,
-    pub strength: u8,
+    pub switches: Switches,
     pub heater: HeaterDrive,
     pub bezel: Offsets,
     pub pixels: Area,
@@ -116,10 +121,12 @@ impl Settings {
     {
         Settings {
             backlight: 0,
-            master: 1,
-            park: 0,
-            splash: 0,
-            strength: 0,
+            switches: Switches {
+                master: 1,
+                park: 0,
+                splash: 0,
+                strength: 0,
+            },
             heater: HeaterDrive { khz: 0, duty: 0 },
             bezel: Offsets {
                 horizontal: 0,

@@ -1,138 +1,21 @@
-use Prim.Native.Nat.{_≤_, _<_, _-_, min}
-use native.Mathlib.Omega.{arith}
-use mathlib.Core.Path.{_≡_, sym, ap, _∙_}
-use mathlib.Core.Logic.{⊎-elim}
-use mathlib.Core.List.{_++_}
-use lib.ListN.{length, take, drop, getD, length-set}
 use borrow.Author.Needs.{needs}
-use Rattle.controller.specs.declared.bus.Controller.{Controller}
-use Rattle.controller.specs.Bus.{after, out}
-use Rattle.controller.specs.BusState.{assembled}
-use Rattle.controller.specs.Run.{run, outs}
-use Rattle.controller.proofs.RunLaws.{run-more}
-use Rattle.controller.proofs.Sent.{sent-more, take-least, drop-least}
 use Rattle.controller.proofs.run.exchange_all.Statement.{statement}
 use Rattle.controller.proofs.run.exchange_all.Tie as tie
 
-abbrev Inv-loop : tie.InvT-loop
-Inv-loop input output₀ body₀ bytes₀ settings₀ state₀ n i₀ output body bytes settings state i =
-    (i ≤ n) ×
-    (assembled state settings body bytes ≡ run (assembled state₀ settings₀ body₀ bytes₀) (take i input)) ×
-    (output ≡ outs (assembled state₀ settings₀ body₀ bytes₀) (take i input) ++ drop i output₀) ×
-    (length output ≡ length output₀)
-
-abbrev μ-loop : tie.MeasureT-loop
-μ-loop input output₀ body₀ bytes₀ settings₀ state₀ n i₀ output body bytes settings state i = n - i
-
-of-requires : tie.Need-of-requires Inv-loop μ-loop
+of-requires : tie.Need-of-requires
 of-requires c κs = search needs
 
-least-requires : tie.Need-least-requires Inv-loop μ-loop
-least-requires c κs = search needs
+exchange-parts-requires : tie.Need-exchange-parts-requires
+exchange-parts-requires c κs = search needs
 
-loop-holds : tie.Need-loop-holds Inv-loop μ-loop
-unfolding run outs
-loop-holds c = search needs
-
-out-requires : tie.Need-out-requires Inv-loop μ-loop
-out-requires c κs = search needs
-
-slice-write-output : tie.Need-slice-write-output Inv-loop μ-loop
-slice-write-output c = search (needs, c .before .before .before .before .least .ensures)
-
-shared-slice-read-after : tie.Need-shared-slice-read-after Inv-loop μ-loop
-shared-slice-read-after c = search (needs, c .before .before .before .before .before .least .ensures)
-
-after-requires : tie.Need-after-requires Inv-loop μ-loop
-after-requires c κs = search needs
-
-enum-known-step : tie.Need-enum-known-step Inv-loop μ-loop
-enum-known-step c = search needs
-
-enum-known-step-2 : tie.Need-enum-known-step-2 Inv-loop μ-loop
-enum-known-step-2 c = search needs
-
-judged-requires : tie.Need-judged-requires Inv-loop μ-loop
-judged-requires c κs = search needs
-
-ended-requires : tie.Need-ended-requires Inv-loop μ-loop
-ended-requires c κs = search needs
-
-add-i : tie.Need-add-i Inv-loop μ-loop
-add-i c =
-    let turn = c .before .before .before .before .before .before .before in
-    let begun = turn .before .before in
-    let entry = begun .before .before .before .before .before .before .before .before .before in
-    record { fits = omega (arith, turn .loop-test .taken, begun .least .ensures, entry .good .1 .0) }
-
-loop-less : tie.Need-loop-less Inv-loop μ-loop
-loop-less c = search needs
-
-loop-again : tie.Need-loop-again Inv-loop μ-loop
-loop-again c =
-    let stepped = c .before in
-    let sent = stepped .before .before .before .before in
-    let turn = sent .before .before in
-    let begun = turn .before .before in
-    let entry = begun .before .before .before .before .before .before .before .before .before in
-    let l = turn .before .loop in
-    let input = entry .args .input .now in
-    let output = entry .args .output .now in
-    let opening = entry .args .controller in
-    let start = assembled (begun .before .of .result) (opening .settings) (opening .packet .body) (opening .reply .bytes) in
-    let byte = getD input (l .i) 0 in
-    let within : l .i < length input = omega (arith, turn .loop-test .taken, begun .least .ensures) in
-    let room : l .i < length output = omega (arith, turn .loop-test .taken, begun .least .ensures) in
-    let step = stepped .after .ensures (l .settings) in
-    let more = ap (λ (k : Controller). after k byte) (l .inv .1) ∙ sym (run-more start input (l .i) within) in
-    let out-is : sent .out .result ≡ out (run start (take (l .i) input)) = sent .out .ensures (l .settings) (l .body) ∙ ap out (l .inv .1) in (
-      search needs,
-      ⊎-elim (λ next. rw (next .3, next .4, next .5) ((rw (next .1 .given .1) at step) ∙ more))
-          (λ sum. rw (sum .9, sum .10, sum .11, sum .8 .ensures) (sum .4 .ensures _ ∙ (rw (sum .1 .given .1) at step) ∙ more))
-          (c .match .came),
-      rw (out-is, l .inv .2) (sent-more start input output (l .i) within room),
-      simp length-set (l .inv .3),
-    )
-
-assembled-requires : tie.Need-assembled-requires Inv-loop μ-loop
-assembled-requires c κs = search needs
-
-same-length : tie.Need-same-length Inv-loop μ-loop
+same-length : tie.Need-same-length
 same-length c = search needs
 
-returns : tie.Need-returns Inv-loop μ-loop
+returns : tie.Need-returns
 returns c =
-    let begun = c .before .before .before in
-    let entry = begun .before .before .before .before .before .before .before .before .before in
-    let l = c .before .before .loop in
-    let input = entry .args .input .now in
-    let output = entry .args .output .now in
-    let all : l .i ≡ min (length input) (length output) = omega (arith, c .before .loop-test .left, begun .least .ensures) in
-    let taken : take (l .i) input ≡ take (length output) input = rw all (take-least input (length output)) in
-    let kept : drop (l .i) output ≡ drop (length input) output = rw all (drop-least (length input) output) in
-    let from = begun .before .of .ensures in
-    (c .assembled .ensures ∙ l .inv .1 ∙ rw (taken, from), l .inv .2 ∙ rw (taken, kept, from))
+    let done = c .before .before in
+    let from = done .before .before .of .ensures in
+    (rw from at (done .exchange-parts .ensures .0), rw from at (done .exchange-parts .ensures .1))
 
 pub exchange-all-spec : {M : Type 1} → statement M
-exchange-all-spec =
-    tie.close
-    (tie.spec
-    Inv-loop
-    μ-loop
-    of-requires
-    least-requires
-    loop-holds
-    out-requires
-    slice-write-output
-    shared-slice-read-after
-    after-requires
-    enum-known-step
-    enum-known-step-2
-    judged-requires
-    ended-requires
-    add-i
-    loop-less
-    loop-again
-    assembled-requires
-    same-length
-    returns)
+exchange-all-spec = tie.close (tie.spec of-requires exchange-parts-requires same-length returns)

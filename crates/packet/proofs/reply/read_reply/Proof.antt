@@ -1,5 +1,3 @@
-use mathlib.Core.Path.{sym, _∙_}
-use Rattle.packet.proofs.Replies.{reply-missing, reply-from}
 use borrow.Author.Needs.{needs}
 use Rattle.packet.proofs.reply.read_reply.Statement.{statement}
 use Rattle.packet.proofs.reply.read_reply.Tie as tie
@@ -7,45 +5,11 @@ use Rattle.packet.proofs.reply.read_reply.Tie as tie
 dummies-requires : tie.Need-dummies-requires
 dummies-requires c κs = search needs
 
+reply-at-requires : tie.Need-reply-at-requires
+reply-at-requires c κs = search needs
+
 returns : tie.Need-returns
-returns c =
-    let a = c .before .before .before .args in
-    let d = c .before .dummies in
-    rw (← (d .ensures)) (sym (reply-missing (a .bytes .now) (d .result) (a .asked) (c .if1 .taken)))
-
-shared-slice-read-response : tie.Need-shared-slice-read-response
-shared-slice-read-response c = search needs
-
-reserved-requires : tie.Need-reserved-requires
-reserved-requires c κs = search needs
-
-returns-2 : tie.Need-returns-2
-returns-2 c =
-    let a = c .before .before .before .before .before .before .args in
-    let d = c .before .before .before .before .dummies in
-    rw (← (d .ensures)) (sym (reply-from (a .bytes .now) (d .result) (a .asked) (c .before .before .before .if1 .left) ∙ rw (← (c .before .reserved .ensures), c .if2 .taken)))
-
-add-after-response : tie.Need-add-after-response
-add-after-response c = search needs
-
-after-response-requires : tie.Need-after-response-requires
-after-response-requires c κs = search needs
-
-returns-3 : tie.Need-returns-3
-returns-3 c =
-    let a = c .before .before .before .before .before .before .before .args in
-    let d = c .before .before .before .before .before .dummies in
-    rw (← (d .ensures)) (c .after-response .ensures ∙ sym (reply-from (a .bytes .now) (d .result) (a .asked) (c .before .before .before .before .if1 .left) ∙ rw (← (c .before .before .reserved .ensures), c .before .if2 .left)))
+returns c = rw (← (c .before .dummies .ensures)) (c .reply-at .ensures)
 
 pub read-reply-spec : {M : Type 1} → statement M
-read-reply-spec =
-    tie.close
-    (tie.spec
-    dummies-requires
-    returns
-    shared-slice-read-response
-    reserved-requires
-    returns-2
-    add-after-response
-    after-response-requires
-    returns-3)
+read-reply-spec = tie.close (tie.spec dummies-requires reply-at-requires returns)

@@ -1,44 +1,53 @@
 use borrow.Author.Needs.{needs}
+use Rattle.base.proofs.Tests.{tests}
 use Rattle.registers.proofs.fields.area_bytes.Statement.{statement}
 use Rattle.registers.proofs.fields.area_bytes.Tie as tie
 
-low-requires : tie.Need-low-requires
-low-requires c κs = search needs
+point-bytes-requires : tie.Need-point-bytes-requires
+point-bytes-requires c κs = search needs
 
-high-requires : tie.Need-high-requires
-high-requires c κs = search needs
+point-bytes-requires-2 : tie.Need-point-bytes-requires-2
+point-bytes-requires-2 c κs = search needs
 
-low-requires-2 : tie.Need-low-requires-2
-low-requires-2 c κs = search needs
+array-read-t7 : tie.Need-array-read-t7
+array-read-t7 c = search needs
 
-high-requires-2 : tie.Need-high-requires-2
-high-requires-2 c κs = search needs
+array-read-t10 : tie.Need-array-read-t10
+array-read-t10 c = search needs
 
-low-requires-3 : tie.Need-low-requires-3
-low-requires-3 c κs = search needs
+array-read-t13 : tie.Need-array-read-t13
+array-read-t13 c = search needs
 
-high-requires-3 : tie.Need-high-requires-3
-high-requires-3 c κs = search needs
+array-read-t16 : tie.Need-array-read-t16
+array-read-t16 c = search needs
 
-low-requires-4 : tie.Need-low-requires-4
-low-requires-4 c κs = search needs
+array-read-t19 : tie.Need-array-read-t19
+array-read-t19 c = search needs
 
-high-requires-4 : tie.Need-high-requires-4
-high-requires-4 c κs = search needs
+array-read-t22 : tie.Need-array-read-t22
+array-read-t22 c = search needs
+
+array-read-t25 : tie.Need-array-read-t25
+array-read-t25 c = search needs
+
+array-read-t28 : tie.Need-array-read-t28
+array-read-t28 c = search needs
 
 returns : tie.Need-returns
-returns c = rw (c .high4 .ensures, c .before .low4 .ensures, c .before .before .high3 .ensures, c .before .before .before .low3 .ensures, c .before .before .before .before .high2 .ensures, c .before .before .before .before .before .low2 .ensures, c .before .before .before .before .before .before .high .ensures, c .before .before .before .before .before .before .before .low .ensures)
+returns c = search (needs, tests, c .point-bytes2 .ensures, c .before .point-bytes .ensures)
 
 pub area-bytes-spec : {M : Type 1} → statement M
 area-bytes-spec =
     tie.close
     (tie.spec
-    low-requires
-    high-requires
-    low-requires-2
-    high-requires-2
-    low-requires-3
-    high-requires-3
-    low-requires-4
-    high-requires-4
+    point-bytes-requires
+    point-bytes-requires-2
+    array-read-t7
+    array-read-t10
+    array-read-t13
+    array-read-t16
+    array-read-t19
+    array-read-t22
+    array-read-t25
+    array-read-t28
     returns)

@@ -3,43 +3,43 @@ use Rattle.base.proofs.Tests.{tests}
 use Rattle.registers.proofs.fields.bezel_bytes.Statement.{statement}
 use Rattle.registers.proofs.fields.bezel_bytes.Tie as tie
 
-magnitude-requires : tie.Need-magnitude-requires
-magnitude-requires c κs = search needs
+offset-bytes-requires : tie.Need-offset-bytes-requires
+offset-bytes-requires c κs = search needs
 
-magnitude-requires-2 : tie.Need-magnitude-requires-2
-magnitude-requires-2 c κs = search needs
+offset-bytes-requires-2 : tie.Need-offset-bytes-requires-2
+offset-bytes-requires-2 c κs = search needs
 
-low-requires : tie.Need-low-requires
-low-requires c κs = search needs
+array-read-t7 : tie.Need-array-read-t7
+array-read-t7 c = search needs
 
-high-requires : tie.Need-high-requires
-high-requires c κs = search needs
+array-read-t10 : tie.Need-array-read-t10
+array-read-t10 c = search needs
 
-sign-requires : tie.Need-sign-requires
-sign-requires c κs = search needs
+array-read-t13 : tie.Need-array-read-t13
+array-read-t13 c = search needs
 
-low-requires-2 : tie.Need-low-requires-2
-low-requires-2 c κs = search needs
+array-read-t16 : tie.Need-array-read-t16
+array-read-t16 c = search needs
 
-high-requires-2 : tie.Need-high-requires-2
-high-requires-2 c κs = search needs
+array-read-t19 : tie.Need-array-read-t19
+array-read-t19 c = search needs
 
-sign-requires-2 : tie.Need-sign-requires-2
-sign-requires-2 c κs = search needs
+array-read-t22 : tie.Need-array-read-t22
+array-read-t22 c = search needs
 
 returns : tie.Need-returns
-returns c = search (needs, tests, c .sign2 .ensures, c .before .before .high2 .ensures, c .before .before .before .low2 .ensures, c .before .before .before .before .sign .ensures, c .before .before .before .before .before .before .high .ensures, c .before .before .before .before .before .before .before .low .ensures, c .before .before .before .before .before .before .before .before .magnitude2 .ensures, c .before .before .before .before .before .before .before .before .before .before .magnitude .ensures)
+returns c = search (needs, tests, c .offset-bytes2 .ensures, c .before .before .offset-bytes .ensures)
 
 pub bezel-bytes-spec : {M : Type 1} → statement M
 bezel-bytes-spec =
     tie.close
     (tie.spec
-    magnitude-requires
-    magnitude-requires-2
-    low-requires
-    high-requires
-    sign-requires
-    low-requires-2
-    high-requires-2
-    sign-requires-2
+    offset-bytes-requires
+    offset-bytes-requires-2
+    array-read-t7
+    array-read-t10
+    array-read-t13
+    array-read-t16
+    array-read-t19
+    array-read-t22
     returns)

@@ -32,20 +32,24 @@ outside-requires c κs = search needs
 
 returns-3 : tie.Need-returns-3
 returns-3 c = λ (σ : Settings).
-    let a = c .before .before .before .before .before .before .args in
+    let all-sent = c .before .before .before in
+    let no-start = all-sent .before .before in
+    let a = no-start .before .args in
     let k = assembled (a .self) σ (a .body .now) (a .bytes .now) in
     let idle = sym (c .before .before .is-idle .ensures) ∙ c .before .if3 .taken in
-    rw (c .outside .ensures) (outside-assembled (a .self) σ (a .body .now) (a .bytes .now) (a .byte) ∙ sym (ignores k (a .byte) (c .before .before .before .before .before .if1 .left) (c .before .before .before .if2 .left) idle))
+    rw (c .outside .ensures) (outside-assembled (a .self) σ (a .body .now) (a .bytes .now) (a .byte) ∙ sym (ignores k (a .byte) (no-start .if1 .left) (all-sent .if2 .left) idle))
 
 inside-requires : tie.Need-inside-requires
 inside-requires c κs = search needs
 
 returns-4 : tie.Need-returns-4
 returns-4 c = λ (σ : Settings).
-    let a = c .before .before .before .before .before .before .before .args in
+    let all-sent = c .before .before .before .before in
+    let no-start = all-sent .before .before in
+    let a = no-start .before .args in
     let k = assembled (a .self) σ (a .body .now) (a .bytes .now) in
     let busy = sym (c .before .before .before .is-idle .ensures) ∙ c .before .before .if3 .left in
-    c .inside .ensures (a .bytes .now) σ ∙ sym (enters k (a .byte) (c .before .before .before .before .before .before .if1 .left) (c .before .before .before .before .if2 .left) busy)
+    c .inside .ensures (a .bytes .now) σ ∙ sym (enters k (a .byte) (no-start .if1 .left) (all-sent .if2 .left) busy)
 
 pub after-spec : {M : Type 1} → statement M
 after-spec =

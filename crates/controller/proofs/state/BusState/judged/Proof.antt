@@ -1,8 +1,6 @@
 use Prim.Native.Nat.{ℕ}
 use mathlib.Core.List.{List}
-use native.Mathlib.Omega.{arith}
-use mathlib.Core.Path.{_≡_, sym}
-use lib.ListN.{length}
+use mathlib.Core.Path.{sym}
 use lib.Seq.{length-take-le}
 use borrow.Author.Needs.{needs}
 use Rattle.base.proofs.Tests.{tests}
@@ -14,10 +12,7 @@ cast-count : tie.Need-cast-count
 cast-count c = search needs
 
 slice-aggregate-perform : tie.Need-slice-aggregate-perform
-slice-aggregate-perform c =
-    let a = c .before .before .before .before .before .before .args in
-    let long : length (a .body .now) ≡ 255 = search needs in
-    sym (length-take-le (a .self .count) (a .body .now) (omega arith))
+slice-aggregate-perform c = sym (length-take-le _ _ (search needs))
 
 perform-requires : tie.Need-perform-requires
 perform-requires c κs = search needs

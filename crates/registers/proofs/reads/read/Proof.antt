@@ -1,0 +1,121 @@
+use borrow.Author.Needs.{needs}
+use Rattle.base.proofs.Tests.{tests}
+use Rattle.registers.proofs.reads.read.Statement.{statement}
+use Rattle.registers.proofs.reads.read.Tie as tie
+
+enum-told : tie.Need-enum-told
+enum-told c = search needs
+
+read-backlight-requires : tie.Need-read-backlight-requires
+read-backlight-requires c κs = search needs
+
+enum-told-2 : tie.Need-enum-told-2
+enum-told-2 c = search needs
+
+read-byte-requires : tie.Need-read-byte-requires
+read-byte-requires c κs = search needs
+
+enum-told-3 : tie.Need-enum-told-3
+enum-told-3 c = search needs
+
+parked-requires : tie.Need-parked-requires
+parked-requires c κs = search needs
+
+read-byte-requires-2 : tie.Need-read-byte-requires-2
+read-byte-requires-2 c κs = search needs
+
+enum-told-4 : tie.Need-enum-told-4
+enum-told-4 c = search needs
+
+read-byte-requires-3 : tie.Need-read-byte-requires-3
+read-byte-requires-3 c κs = search needs
+
+enum-told-5 : tie.Need-enum-told-5
+enum-told-5 c = search needs
+
+read-byte-requires-4 : tie.Need-read-byte-requires-4
+read-byte-requires-4 c κs = search needs
+
+enum-told-6 : tie.Need-enum-told-6
+enum-told-6 c = search needs
+
+read-heater-requires : tie.Need-read-heater-requires
+read-heater-requires c κs = search needs
+
+enum-told-7 : tie.Need-enum-told-7
+enum-told-7 c = search needs
+
+read-bezel-requires : tie.Need-read-bezel-requires
+read-bezel-requires c κs = search needs
+
+enum-told-8 : tie.Need-enum-told-8
+enum-told-8 c = search needs
+
+read-status-requires : tie.Need-read-status-requires
+read-status-requires c κs = search needs
+
+enum-told-9 : tie.Need-enum-told-9
+enum-told-9 c = search needs
+
+read-pixels-requires : tie.Need-read-pixels-requires
+read-pixels-requires c κs = search needs
+
+returns : tie.Need-returns
+returns c = search (needs, tests, c .read-backlight .ensures, c .before .enum-told .given .1)
+
+returns-2 : tie.Need-returns-2
+returns-2 c = search (needs, tests, c .read-byte .ensures, c .before .enum-told2 .given .1)
+
+returns-3 : tie.Need-returns-3
+returns-3 c = search (needs, tests, c .read-byte2 .ensures, c .before .parked .ensures, c .before .before .enum-told3 .given .1)
+
+returns-4 : tie.Need-returns-4
+returns-4 c = search (needs, tests, c .read-byte3 .ensures, c .before .enum-told4 .given .1)
+
+returns-5 : tie.Need-returns-5
+returns-5 c = search (needs, tests, c .read-byte4 .ensures, c .before .enum-told5 .given .1)
+
+returns-6 : tie.Need-returns-6
+returns-6 c = search (needs, tests, c .read-heater .ensures, c .before .enum-told6 .given .1)
+
+returns-7 : tie.Need-returns-7
+returns-7 c = search (needs, tests, c .read-bezel .ensures, c .before .enum-told7 .given .1)
+
+returns-8 : tie.Need-returns-8
+returns-8 c = search (needs, tests, c .read-status .ensures, c .before .enum-told8 .given .1)
+
+returns-9 : tie.Need-returns-9
+returns-9 c = search (needs, tests, c .read-pixels .ensures, c .before .enum-told9 .given .1)
+
+pub read-spec : {M : Type 1} → statement M
+read-spec =
+    tie.close
+    (tie.spec
+    enum-told
+    read-backlight-requires
+    enum-told-2
+    read-byte-requires
+    enum-told-3
+    parked-requires
+    read-byte-requires-2
+    enum-told-4
+    read-byte-requires-3
+    enum-told-5
+    read-byte-requires-4
+    enum-told-6
+    read-heater-requires
+    enum-told-7
+    read-bezel-requires
+    enum-told-8
+    read-status-requires
+    enum-told-9
+    read-pixels-requires
+    returns
+    returns-2
+    returns-3
+    returns-4
+    returns-5
+    returns-6
+    returns-7
+    returns-8
+    returns-9)
