@@ -2,7 +2,7 @@
 use base::store;
 use settings::Settings;
 ghost use mathlib.Core.Path.{_≡_};
-ghost use Prim.Native.Nat.{_≤_};
+ghost use Prim.Native.Nat.{_≤_, min};
 ghost use lib.ListN.{length, take};
 ghost use Rattle.settings.specs.Settings.{fresh};
 ghost use Rattle.frame.specs.Frame as spec;
@@ -71,6 +71,17 @@ impl Change {
             count: bytes.len() as u8,
             body,
         }
+    }
+
+    // How many bytes of body are its data.
+    pub fn data_length(self) -> usize
+        ensures { λ r. ⌜ r ≡ min (self .count) spec.data-limit ⌝ }
+    {
+        let count = self.count as usize;
+        if DATA_LIMIT < count {
+            return DATA_LIMIT;
+        }
+        count
     }
 
     pub fn raise(step: u16) -> Change

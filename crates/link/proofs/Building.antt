@@ -1,20 +1,19 @@
 -- What the code builds up byte run by byte run.
 use Prim.Native.Nat.{ℕ, _+_, _≤_}
-use native.Mathlib.Nat.{zero-add, add-assoc}
-use mathlib.Core.Path.{_≡_}
-use mathlib.Core.Bool.{true}
-use mathlib.Core.List.{List, [], _++_}
+use native.Mathlib.Nat.{add-assoc}
+use native.Mathlib.Omega.{arith}
+use mathlib.Core.Path.{_≡_, refl, sym, ap, _∙_}
+use mathlib.Core.List.{List, _++_}
 use lib.ListN.{length, drop, replicate, length-append}
-use lib.Seq.{take-append-seam}
-use Rattle.base.proofs.Lists.{sets-append, sets-front}
+use lib.Seq.{take-append-seam, sets}
+use Rattle.base.proofs.Lists.{sets-append, sets-next, sets-front}
 use Rattle.link.specs.declared.encoded.Encoded.{Encoded}
 use Rattle.frame.specs.declared.frame.Frame.{Frame as FrameStruct}
-use Rattle.frame.specs.Frame.{data-limit, Frame}
-use Rattle.link.specs.Encoding.{encode}
-use Rattle.link.specs.Steps.{pushed, short}
+use Rattle.frame.specs.Frame.{data-limit}
+use Rattle.link.specs.Steps.{pushed}
 use Rattle.frame.specs.View.{meaning}
 use Rattle.link.specs.View.{frame-limit, encoding-of, bytes-of, encoded}
-use Rattle.link.proofs.FrameLaws.{encode-length, meaning-length}
+use Rattle.link.proofs.FrameLaws.{meaning-length}
 
 pub pushed-append : (e : Encoded) (xs ys : List ℕ) → pushed (pushed e xs) ys ≡ pushed e (xs ++ ys)
 unfolding pushed
@@ -23,11 +22,14 @@ pushed-append e xs ys =
     let lens : (e .len + length xs) + length ys ≡ e .len + length (xs ++ ys) = rw (length-append, add-assoc) in
     λ i. record { bytes = runs i; len = lens i }
 
-pub built : (f : Frame) → short f ≡ true → pushed (encoded []) (encode f) ≡ encoded (encode f)
+-- bytes behind those of a frame begun
+pub pushed-encoded : (xs ys : List ℕ) → length (xs ++ ys) ≤ frame-limit → pushed (encoded xs) ys ≡ encoded (xs ++ ys)
 unfolding pushed
-built f e =
-    let run = sets-front (encode f) (replicate frame-limit 0) (encode-length f e) in
-    let len = zero-add (length (encode f)) in
+pushed-encoded xs ys short =
+    let front : length xs ≤ frame-limit = omega (arith, length-append xs ys) in
+    let run = ap (λ (l : List ℕ). sets l (length xs) ys) (sym (sets-front xs (replicate frame-limit 0) front))
+    ∙ sets-next xs ys (replicate frame-limit 0) (length xs) refl ∙ sets-front (xs ++ ys) (replicate frame-limit 0) short in
+    let len = sym (length-append xs ys) in
     λ i. record { bytes = run i; len = len i }
 
 pub bytes-of-encoded : (l : List ℕ) → bytes-of (encoded l) ≡ l
@@ -36,4 +38,4 @@ bytes-of-encoded l = take-append-seam l (drop (length l) (replicate frame-limit 
 -- encode's three clauses from the first
 pub whole-encoded : (f : FrameStruct) (r : Encoded) → length (f .change .body) ≡ data-limit → r ≡ encoded (encoding-of (meaning f)) →
     (r ≡ encoded (encoding-of (meaning f))) × ((bytes-of r ≡ encoding-of (meaning f)) × (r .len ≤ frame-limit))
-whole-encoded f r le32 whole = (whole, (rw whole (bytes-of-encoded (encoding-of (meaning f))), rw whole (meaning-length f le32)))
+whole-encoded f r long whole = (whole, (rw whole (bytes-of-encoded (encoding-of (meaning f))), rw whole (meaning-length f long)))

@@ -1,28 +1,61 @@
 -- Theorems on frames: decode gives exactly the valid frames, from their encodings alone.
-use Prim.Native.Nat.{ℕ, _<_, _≤_}
+use Prim.Native.Nat.{ℕ, _<_}
 use native.Mathlib.Omega.{arith}
 use mathlib.Core.Path.{_≡_, refl, sym, ap, subst}
-use mathlib.Core.Bool.{Bool, true, false, cond, _&&_}
-use mathlib.Core.Logic.{_↔_}
+use mathlib.Core.Bool.{Bool, true, false, cond, not, _&&_}
 use mathlib.Core.List.{List, [], _∷_, _++_}
 use mathlib.Core.Option.{Option, none, some, Option·some-injective}
 use lib.ListN.{length, getD, drop}
 use lib.Dec.{T, eqb, leb}
-use borrow.Author.Tests.{eq-eqb, le-leb, eqb-true, leb-true}
+use borrow.Author.Tests.{eq-eqb, le-leb, le-ltb, eqb-true, leb-true, ltb-false, not-true}
 use Rattle.number.specs.Number.{le16, le16-bytes, le32, le32-bytes}
-use Rattle.number.proofs.NumberLaws.{le16-read, le32-read}
-use Rattle.base.proofs.Tests.{cond-cases}
 use Rattle.registers.specs.Block.{block}
-use Rattle.registers.proofs.BlockTheorems.{block-read, block-bytes, from-block-held}
+use Rattle.registers.proofs.BlockTheorems.{block-read, block-bytes, from-block-held, held-in-range}
 use Rattle.base.specs.Bytes.{Bytes}
 use Rattle.base.proofs.ByteLaws.{bytes-cons, bytes-append, bytes-drop, bytes-each}
-use Rattle.base.proofs.Tests.{both-true}
-use Rattle.number.proofs.NumberLaws.{bytes-le16, bytes-le32, le16-below, le32-below}
-use Rattle.frame.specs.Frame.{data-limit, Change, command, raise, lower, Frame, opening, welcome, order, ack, refuse, ValidChange, valid-command, valid-raise, valid-lower}
-use Rattle.link.specs.Encoding.{field, change-field, encode, Valid, valid-opening, valid-welcome, valid-order, valid-ack, valid-refuse, same, promised-change, order-of, promised, short-enough, allowed, accepted, decode}
+use Rattle.base.proofs.Tests.{cond-cases, both-true}
+use Rattle.number.proofs.NumberLaws.{le16-read, le32-read, bytes-le16, bytes-le32, le16-below, le32-below}
+use Rattle.frame.specs.Frame.{
+  data-limit,
+  Change,
+  command,
+  raise,
+  lower,
+  Frame,
+  opening,
+  welcome,
+  order,
+  ack,
+  refuse,
+  too-long,
+  ValidChange,
+  valid-command,
+  valid-raise,
+  valid-lower,
+}
+use Rattle.link.specs.Encoding.{
+  field,
+  change-field,
+  encode,
+  Valid,
+  valid-opening,
+  valid-welcome,
+  valid-order,
+  valid-ack,
+  valid-refuse,
+  same,
+  change-by-tag,
+  promised-change,
+  order-of,
+  frame-by-tag,
+  promised,
+  allowed,
+  accepted,
+  decode,
+}
 use Rattle.link.proofs.FrameLaws.{encode-length}
-use Rattle.link.specs.Steps.{short}
-use Rattle.link.specs.View.{frame-limit}
+use Rattle.link.specs.Steps.{frame-too-long}
+use Rattle.link.specs.Theorems.{DecodeExact, DecodeEncode, EncodeShort, EncodeBytes}
 
 -- ---- the comparison
 
@@ -45,20 +78,20 @@ Sound none = T true
 Sound (some f) = allowed f ≡ true → Valid f
 
 module _ (s n : ℕ) (hs : s < 4294967296) (hn : n < 65536) where
-  with-change : (c : Change) → (short-enough c ≡ true → ValidChange c) → Sound (some (order s n c))
+  with-change : (c : Change) → (too-long c ≡ false → ValidChange c) → Sound (some (order s n c))
   with-change c h e =
-      let a = both-true (leb 1 n) (short-enough c) e in
-      valid-order hs (leb-true 1 n (a .0)) hn (h (a .1))
+      let a = both-true (leb 1 n) (not (too-long c)) e in
+      valid-order hs (leb-true 1 n (a .0)) hn (h (not-true (too-long c) (a .1)))
 
   abbrev Ordered : Option Change → Type 0
   Ordered o = Sound (order-of s n o)
 
   order-sound : (b : List ℕ) → Bytes b → Sound (order-of s n (promised-change b))
-  unfolding promised-change
+  unfolding change-by-tag
   order-sound b bytes =
       let step = le16-below (drop 3 b) (bytes-drop 3 b bytes) in
       cond-cases Ordered (eqb (getD b 0 0) 0x21) _ _
-      (λ _. with-change (command (getD b 3 0) (drop 4 b)) (λ e. valid-command (bytes 3) (leb-true (length (drop 4 b)) data-limit e) (bytes-drop 4 b bytes)))
+      (λ _. with-change (command (getD b 3 0) (drop 4 b)) (λ e. valid-command (bytes 3) (ltb-false data-limit (length (drop 4 b)) e) (bytes-drop 4 b bytes)))
       (λ _. cond-cases Ordered (eqb (getD b 0 0) 0x22) _ _ (λ _. with-change (raise (le16 (drop 3 b))) (λ _. valid-raise step))
       (λ _. cond-cases Ordered (eqb (getD b 0 0) 0x23) _ _ (λ _. with-change (lower (le16 (drop 3 b))) (λ _. valid-lower step))
       (λ _. tt)))
@@ -70,7 +103,7 @@ refuse-sound s r hs e =
     valid-refuse hs (leb-true 4 r (range .0)) (leb-true r 7 (range .1)) (λ four. eqb-true s 0 (rw (eq-eqb r 4 four) at (a .1)))
 
 promised-sound : (b : List ℕ) → Bytes b → Sound (promised b)
-unfolding promised
+unfolding frame-by-tag
 promised-sound b bytes =
     let session = le32-below (drop 3 b) (bytes-drop 3 b bytes) in
     let number = le16-below (drop 7 b) (bytes-drop 7 b bytes) in
@@ -94,54 +127,53 @@ accepted-sound (some g) b f h e = go (allowed g && same (encode g) b) refl e
 -- ---- what is encoded is read again
 
 change-promised : (c : Change) → ValidChange c → promised-change (change-field c) ≡ some c
-unfolding promised-change
+unfolding change-by-tag
 change-promised (command k d) v = refl
 change-promised (raise n) (valid-raise h) = ap (λ (x : ℕ). some (raise x)) (le16-read n h)
 change-promised (lower n) (valid-lower h) = ap (λ (x : ℕ). some (lower x)) (le16-read n h)
 
 encode-promised : (f : Frame) → Valid f → promised (encode f) ≡ some f
-unfolding encode promised
+unfolding encode frame-by-tag
 encode-promised (opening s) (valid-opening hs) = ap (λ (x : ℕ). some (opening x)) (le32-read s hs)
 encode-promised (welcome s σ) (valid-welcome hs held) = λ i. some (welcome (le32-read s hs i) (block-read σ held i))
 encode-promised (order s n c) (valid-order hs h1 hn hc) = λ i. order-of (le32-read s hs i) (le16-read n hn i) (change-promised c hc i)
 encode-promised (ack s k) (valid-ack hs hk) = λ i. some (ack (le32-read s hs i) (le16-read k hk i))
 encode-promised (refuse s r) (valid-refuse hs h4 h7 h0) = ap (λ (x : ℕ). some (refuse x r)) (le32-read s hs)
 
-change-short : (c : Change) → ValidChange c → short-enough c ≡ true
-change-short (command k d) (valid-command hk hd hb) = le-leb (length d) data-limit hd
+change-short : (c : Change) → ValidChange c → too-long c ≡ false
+change-short (command k d) (valid-command hk hd hb) = le-ltb data-limit (length d) hd
 change-short (raise n) v = refl
 change-short (lower n) v = refl
 
 valid-allowed : (f : Frame) → Valid f → allowed f ≡ true
 valid-allowed (opening s) v = refl
-valid-allowed (welcome s σ) (valid-welcome hs h) =
-    rw (le-leb _ _ (h .master), le-leb _ _ (h .park), le-leb _ _ (h .splash), le-leb _ _ (h .strength), le-leb _ _ (h .duty))
+valid-allowed (welcome s σ) (valid-welcome hs h) = held-in-range σ h
 valid-allowed (order s n c) (valid-order hs h1 hn hc) = rw (le-leb 1 n h1, change-short c hc)
 valid-allowed (ack s k) v = refl
 valid-allowed (refuse s r) (valid-refuse hs h4 h7 h0) =
     rw (le-leb 4 r h4, le-leb r 7 h7) (cond-cases (λ (t : Bool). t ≡ true) (eqb r 4) (eqb s 0) true (λ e. eq-eqb s 0 (h0 (eqb-true r 4 e))) (λ _. refl))
 
-decode-encode : (f : Frame) → Valid f → decode (encode f) ≡ some f
+pub decode-encode : DecodeEncode
 unfolding decode
 decode-encode f v = rw (encode-promised f v, valid-allowed f v, same-refl (encode f))
 
 -- ---- the theorems
 
-pub decode-exact : (b : List ℕ) → Bytes b → (f : Frame) → (decode b ≡ some f) ↔ (Valid f × (encode f ≡ b))
+pub decode-exact : DecodeExact
 unfolding decode
 decode-exact b bytes f = (
   λ e. accepted-sound (promised b) b f (promised-sound b bytes) e,
   λ v. subst (λ (x : List ℕ). decode x ≡ some f) (v .1) (decode-encode f (v .0)),
 )
 
-valid-short : (f : Frame) → Valid f → short f ≡ true
+valid-short : (f : Frame) → Valid f → frame-too-long f ≡ false
 valid-short (opening s) v = refl
 valid-short (welcome s σ) v = refl
 valid-short (order s n c) (valid-order hs h1 hn hc) = change-short c hc
 valid-short (ack s k) v = refl
 valid-short (refuse s r) v = refl
 
-pub encode-short : (f : Frame) → Valid f → length (encode f) ≤ frame-limit
+pub encode-short : EncodeShort
 encode-short f v = encode-length f (valid-short f v)
 
 field-bytes : (tag : ℕ) (contents : List ℕ) → tag < 256 → Bytes contents → Bytes (field tag contents)
@@ -155,7 +187,7 @@ change-bytes (lower n) v = field-bytes 0x23 (le16-bytes n) (omega arith) (bytes-
 numbered-bytes : (tag s n : ℕ) → tag < 256 → Bytes (field tag (le32-bytes s ++ le16-bytes n))
 numbered-bytes tag s n h = field-bytes tag (le32-bytes s ++ le16-bytes n) h (bytes-append (le32-bytes s) (le16-bytes n) (bytes-le32 s) (bytes-le16 n))
 
-pub encode-bytes : (f : Frame) → Valid f → Bytes (encode f)
+pub encode-bytes : EncodeBytes
 unfolding encode
 encode-bytes (opening s) v = field-bytes 0x10 (le32-bytes s) (omega arith) (bytes-le32 s)
 encode-bytes (welcome s σ) (valid-welcome hs held) =

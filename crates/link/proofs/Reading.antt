@@ -10,8 +10,8 @@ use lib.Dec.{eqb}
 use borrow.Author.Tests.{eq-eqb, ne-eqb}
 use Rattle.base.proofs.Lists.{drop-more}
 use Rattle.frame.specs.declared.frame.Frame.{Frame as FrameStruct}
-use Rattle.frame.specs.Frame.{Frame, opening, welcome, order, ack, refuse}
-use Rattle.link.specs.Encoding.{same, short-enough, accepted, promised, decode}
+use Rattle.frame.specs.Frame.{Frame, opening, welcome, order, ack, refuse, too-long}
+use Rattle.link.specs.Encoding.{same, accepted, promised, decode}
 use Rattle.frame.proofs.Laws.{meaning-frame-of}
 use Rattle.link.specs.Steps.{held, allowed-of}
 use Rattle.frame.specs.View.{meaning, frame-of}
@@ -42,11 +42,13 @@ pub accepted-held : (o : Option Frame) (b : List ℕ) → accepted o b ≡ cond 
 accepted-held none b = refl
 accepted-held (some (opening s)) b = refl
 accepted-held (some (welcome s σ)) b = refl
-accepted-held (some (order s n c)) b = go (short-enough c) refl
+accepted-held (some (order s n c)) b = go (too-long c) refl
   where
-    go : (x : Bool) → short-enough c ≡ x → accepted (some (order s n c)) b ≡ cond (allowed-of (held (some (order s n c))) && same (encoding-of (held (some (order s n c)))) b) (held (some (order s n c))) none
-    go true e = rw (e, e)
-    go false e = rw (e, and-false)
+    go : (x : Bool) → too-long c ≡ x →
+        let o = some (order s n c) in
+        accepted o b ≡ cond (allowed-of (held o) && same (encoding-of (held o)) b) (held o) none
+    go true e = rw (e, and-false)
+    go false e = rw (e, e)
 accepted-held (some (ack s k)) b = refl
 accepted-held (some (refuse s r)) b = refl
 

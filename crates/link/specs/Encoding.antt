@@ -1,14 +1,14 @@
 -- The five frames in bytes: document 01, "The adjustment link".
 use Prim.Native.Nat.{ℕ, _<_, _≤_}
 use mathlib.Core.Path.{_≡_}
-use mathlib.Core.Bool.{Bool, true, false, cond, _&&_}
+use mathlib.Core.Bool.{Bool, true, false, cond, not, _&&_}
 use mathlib.Core.List.{List, [], _∷_, _++_}
 use mathlib.Core.Option.{Option, none, some}
 use lib.ListN.{length, getD, drop}
 use lib.Dec.{eqb, leb}
 use Rattle.number.specs.Number.{le16, le16-bytes, le32, le32-bytes}
 use Rattle.settings.specs.declared.settings.Settings.{Settings}
-use Rattle.frame.specs.Frame.{data-limit, Change, command, raise, lower, Frame, opening, welcome, order, ack, refuse, ValidChange}
+use Rattle.frame.specs.Frame.{Change, command, raise, lower, Frame, opening, welcome, order, ack, refuse, too-long, ValidChange}
 use Rattle.registers.specs.Block.{block, from-block, in-range, Held}
 
 -- ---- to bytes
@@ -46,35 +46,43 @@ same [] (y ∷ ys) = false
 same (x ∷ xs) [] = false
 same (x ∷ xs) (y ∷ ys) = eqb x y && same xs ys
 
-unfoldable pub promised-change : List ℕ → Option Change
-promised-change b =
-    cond (eqb (getD b 0 0) 0x21) (some (command (getD b 3 0) (drop 4 b)))
-    (cond (eqb (getD b 0 0) 0x22) (some (raise (le16 (drop 3 b))))
-    (cond (eqb (getD b 0 0) 0x23) (some (lower (le16 (drop 3 b))))
+-- where a frame's session stands, and the number of an ORDER or an ACK
+abbrev pub session-in : List ℕ → ℕ
+session-in b = le32 (drop 3 b)
+
+abbrev pub number-in : List ℕ → ℕ
+number-in b = le16 (drop 7 b)
+
+unfoldable pub change-by-tag : ℕ → List ℕ → Option Change
+change-by-tag tag b =
+    cond (eqb tag 0x21) (some (command (getD b 3 0) (drop 4 b)))
+    (cond (eqb tag 0x22) (some (raise (le16 (drop 3 b))))
+    (cond (eqb tag 0x23) (some (lower (le16 (drop 3 b))))
     none))
+
+abbrev pub promised-change : List ℕ → Option Change
+promised-change b = change-by-tag (getD b 0 0) b
 
 abbrev pub order-of : ℕ → ℕ → Option Change → Option Frame
 order-of s n none = none
 order-of s n (some c) = some (order s n c)
 
-unfoldable pub promised : List ℕ → Option Frame
-promised b =
-    cond (eqb (getD b 0 0) 0x10) (some (opening (le32 (drop 3 b))))
-    (cond (eqb (getD b 0 0) 0x11) (some (welcome (le32 (drop 3 b)) (from-block (drop 10 b))))
-    (cond (eqb (getD b 0 0) 0x12) (order-of (le32 (drop 3 b)) (le16 (drop 7 b)) (promised-change (drop 9 b)))
-    (cond (eqb (getD b 0 0) 0x13) (some (ack (le32 (drop 3 b)) (le16 (drop 7 b))))
-    (cond (eqb (getD b 0 0) 0x14) (some (refuse (le32 (drop 3 b)) (getD b 7 0)))
+unfoldable pub frame-by-tag : ℕ → List ℕ → Option Frame
+frame-by-tag tag b =
+    cond (eqb tag 0x10) (some (opening (session-in b)))
+    (cond (eqb tag 0x11) (some (welcome (session-in b) (from-block (drop 10 b))))
+    (cond (eqb tag 0x12) (order-of (session-in b) (number-in b) (promised-change (drop 9 b)))
+    (cond (eqb tag 0x13) (some (ack (session-in b) (number-in b)))
+    (cond (eqb tag 0x14) (some (refuse (session-in b) (getD b 7 0)))
     none))))
 
-abbrev pub short-enough : Change → Bool
-short-enough (command k d) = leb (length d) data-limit
-short-enough (raise n) = true
-short-enough (lower n) = true
+abbrev pub promised : List ℕ → Option Frame
+promised b = frame-by-tag (getD b 0 0) b
 
 abbrev pub allowed : Frame → Bool
 allowed (opening s) = true
 allowed (welcome s σ) = in-range σ
-allowed (order s n c) = leb 1 n && short-enough c
+allowed (order s n c) = leb 1 n && not (too-long c)
 allowed (ack s k) = true
 allowed (refuse s r) = leb 4 r && leb r 7 && cond (eqb r 4) (eqb s 0) true
 

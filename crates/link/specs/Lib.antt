@@ -1,3 +1,4 @@
 pub mod Encoding
 pub mod Steps
+pub mod Theorems
 pub mod View

@@ -12,9 +12,9 @@ use number::le16;
 use number::le32;
 use number::rest;
 use registers::from_block;
-use settings::Settings;
+use registers::in_range;
 ghost use mathlib.Core.Path.{_≡_};
-ghost use Rattle.registers.specs.Block.{in-range};
+ghost use mathlib.Core.Option.{some};
 ghost use Rattle.frame.specs.View.{frame-of, meaning};
 ghost use Rattle.frame.specs.Frame as frames;
 ghost use Rattle.link.specs.Encoding as spec;
@@ -37,23 +37,68 @@ fn same_bytes(a: &[u8], b: &[u8]) -> bool
     true
 }
 
-// The order whose change begins bytes. Data that the struct has no room for are not allowed anyway.
-fn promised_order(session: SessionId, number: OrderNumber, bytes: &[u8]) -> Frame
-    ensures { λ r. ⌜ r ≡ frame-of (steps.held (spec.order-of (session .0) (number .0) (spec.promised-change (now (bytes .entry))))) ⌝ }
+fn session_in(bytes: &[u8]) -> SessionId
+    ensures { λ r. ⌜ r .0 ≡ spec.session-in (now (bytes .entry)) ⌝ }
 {
-    let first = byte(bytes, 0);
-    if first == tag::COMMAND {
-        let d = rest(bytes, 4);
-        if DATA_LIMIT < d.len() {
-            return Frame::malformed();
-        }
-        return Frame::order(session, number, Change::command(byte(bytes, 3), d));
+    SessionId(le32(rest(bytes, 3)))
+}
+
+fn number_in(bytes: &[u8]) -> OrderNumber
+    ensures { λ r. ⌜ r .0 ≡ spec.number-in (now (bytes .entry)) ⌝ }
+{
+    OrderNumber(le16(rest(bytes, 7)))
+}
+
+// Data that the struct has no room for are not allowed anyway.
+fn command_order(session: SessionId, number: OrderNumber, command: u8, bytes: &[u8]) -> Frame
+    ensures { λ r. ⌜ r ≡ frame-of (steps.held (some (frames.order (session .0) (number .0) (frames.command command (now (bytes .entry)))))) ⌝ }
+{
+    if DATA_LIMIT < bytes.len() {
+        return Frame::malformed();
     }
-    if first == tag::RAISE {
-        return Frame::order(session, number, Change::raise(le16(rest(bytes, 3))));
+    Frame::order(session, number, Change::command(command, bytes))
+}
+
+// The order whose change is the field of this tag.
+fn order_by_tag(session: SessionId, number: OrderNumber, tag: u8, field: &[u8]) -> Frame
+    ensures { λ r. ⌜ r ≡ frame-of (steps.held (spec.order-of (session .0) (number .0) (spec.change-by-tag tag (now (field .entry))))) ⌝ }
+{
+    if tag == tag::COMMAND {
+        return command_order(session, number, byte(field, 3), rest(field, 4));
     }
-    if first == tag::LOWER {
-        return Frame::order(session, number, Change::lower(le16(rest(bytes, 3))));
+    if tag == tag::RAISE {
+        return Frame::order(session, number, Change::raise(le16(rest(field, 3))));
+    }
+    if tag == tag::LOWER {
+        return Frame::order(session, number, Change::lower(le16(rest(field, 3))));
+    }
+    Frame::malformed()
+}
+
+fn promised_order(bytes: &[u8]) -> Frame
+    ensures { λ r. ⌜ r ≡ frame-of (steps.held (steps.promised-order (now (bytes .entry)))) ⌝ }
+{
+    let field = rest(bytes, 9);
+    order_by_tag(session_in(bytes), number_in(bytes), byte(field, 0), field)
+}
+
+fn frame_by_tag(tag: u8, bytes: &[u8]) -> Frame
+    ensures { λ r. ⌜ r ≡ frame-of (steps.held (spec.frame-by-tag tag (now (bytes .entry)))) ⌝ }
+{
+    if tag == tag::OPENING {
+        return Frame::opening(session_in(bytes));
+    }
+    if tag == tag::WELCOME {
+        return Frame::welcome(session_in(bytes), from_block(rest(bytes, 10)));
+    }
+    if tag == tag::ORDER {
+        return promised_order(bytes);
+    }
+    if tag == tag::ACK {
+        return Frame::ack(session_in(bytes), number_in(bytes));
+    }
+    if tag == tag::REFUSE {
+        return Frame::refuse(session_in(bytes), byte(bytes, 7));
     }
     Frame::malformed()
 }
@@ -62,44 +107,7 @@ fn promised_order(session: SessionId, number: OrderNumber, bytes: &[u8]) -> Fram
 fn promised(bytes: &[u8]) -> Frame
     ensures { λ r. ⌜ r ≡ frame-of (steps.held (spec.promised (now (bytes .entry)))) ⌝ }
 {
-    let first = byte(bytes, 0);
-    let session = SessionId(le32(rest(bytes, 3)));
-    let number = OrderNumber(le16(rest(bytes, 7)));
-    if first == tag::OPENING {
-        return Frame::opening(session);
-    }
-    if first == tag::WELCOME {
-        return Frame::welcome(session, from_block(rest(bytes, 10)));
-    }
-    if first == tag::ORDER {
-        return promised_order(session, number, rest(bytes, 9));
-    }
-    if first == tag::ACK {
-        return Frame::ack(session, number);
-    }
-    if first == tag::REFUSE {
-        return Frame::refuse(session, byte(bytes, 7));
-    }
-    Frame::malformed()
-}
-
-fn settings_allowed(settings: Settings) -> bool
-    ensures { λ r. ⌜ r ≡ in-range settings ⌝ }
-{
-    if 1 < settings.master {
-        return false;
-    }
-    if 1 < settings.park {
-        return false;
-    }
-    if 1 < settings.splash {
-        return false;
-    }
-    if 2 < settings.strength {
-        return false;
-    }
-    let heater = settings.heater;
-    heater.duty <= 100
+    frame_by_tag(byte(bytes, 0), bytes)
 }
 
 fn refusal_allowed(session: SessionId, refusal: u8) -> bool
@@ -125,7 +133,7 @@ fn allowed(frame: Frame) -> bool
     match kind {
         Kind::Malformed => false,
         Kind::Opening => true,
-        Kind::Welcome => settings_allowed(frame.settings),
+        Kind::Welcome => in_range(frame.settings),
         Kind::Order => 1 <= number.0,
         Kind::Ack => true,
         Kind::Refuse(refusal) => refusal_allowed(frame.session, refusal),

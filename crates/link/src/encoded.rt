@@ -4,6 +4,7 @@ use base::store;
 use frame::Verdict;
 use number::high;
 use number::low;
+use registers::BLOCK;
 ghost use mathlib.Core.Path.{_≡_};
 ghost use mathlib.Core.List.{[], _∷_};
 ghost use Prim.Native.Nat.{_+_, _≤_};
@@ -15,8 +16,8 @@ ghost use Rattle.link.specs.Encoding.{field as field-of};
 ghost use Rattle.link.specs.Steps as steps;
 ghost use Rattle.link.specs.View as view;
 
-// The longest frame: WELCOME.
-pub const FRAME_LIMIT: usize = 37;
+// The longest frame, a WELCOME: a session field of 7 bytes, a field header of 3 and the settings block.
+pub const FRAME_LIMIT: usize = 10 + BLOCK;
 
 // The frame is the first len bytes.
 pub struct Encoded {

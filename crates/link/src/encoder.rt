@@ -5,7 +5,6 @@ use crate::encoded::put;
 use crate::tag;
 use frame::Ask;
 use frame::Change;
-use frame::DATA_LIMIT;
 use frame::Frame;
 use frame::Kind;
 use frame::OrderNumber;
@@ -16,11 +15,10 @@ use registers::block;
 use settings::Settings;
 ghost use mathlib.Core.Path.{_≡_};
 ghost use mathlib.Core.List.{_++_};
-ghost use Prim.Native.Nat.{_≤_};
+ghost use Prim.Native.Nat.{_+_, _≤_};
 ghost use lib.ListN.{length};
 ghost use Rattle.number.specs.Number.{le16-bytes, le32-bytes as le32-bytes-of};
-ghost use Rattle.base.specs.Lent.{overwritten};
-ghost use Rattle.frame.specs.View.{asked, meaning, refusal-of};
+ghost use Rattle.frame.specs.View.{asked, meaning};
 ghost use Rattle.frame.specs.Frame as frames;
 ghost use Rattle.link.specs.Encoding as spec;
 ghost use Rattle.link.specs.Steps as steps;
@@ -46,25 +44,31 @@ fn numbered(session: SessionId, number: OrderNumber) -> [u8; 6]
     [s[0], s[1], s[2], s[3], low(n), high(n)]
 }
 
-fn opening(session: SessionId) -> Encoded
-    ensures { λ r. ⌜ r ≡ view.encoded (spec.encode (frames.opening (session .0))) ⌝ }
+// The first field of OPEN and WELCOME.
+fn session_field(tag: u8, session: SessionId) -> Encoded
+    ensures { λ r. ⌜ r ≡ view.encoded (spec.field tag (le32-bytes-of (session .0))) ⌝ }
 {
     let s = le32_bytes(session.0);
-    Encoded::empty().field(tag::OPENING, &s)
+    Encoded::empty().field(tag, &s)
+}
+
+// The first field of ORDER and ACK.
+fn numbered_field(tag: u8, session: SessionId, number: OrderNumber) -> Encoded
+    ensures { λ r. ⌜ r ≡ view.encoded (spec.field tag (le32-bytes-of (session .0) ++ le16-bytes (number .0))) ⌝ }
+{
+    let b = numbered(session, number);
+    Encoded::empty().field(tag, &b)
 }
 
 fn welcome(session: SessionId, settings: Settings) -> Encoded
     ensures { λ r. ⌜ r ≡ view.encoded (spec.encode (frames.welcome (session .0) settings)) ⌝ }
 {
-    let s = le32_bytes(session.0);
     let b = block(settings);
-    Encoded::empty()
-        .field(tag::WELCOME, &s)
-        .field(tag::SETTINGS, &b)
+    session_field(tag::WELCOME, session).field(tag::SETTINGS, &b)
 }
 
 fn command_field(e: Encoded, command: u8, bytes: &[u8]) -> Encoded
-    requires { ⌜ (e .len ≤ 9) × (length (now bytes) ≤ frames.data-limit) ⌝ }
+    requires { ⌜ e .len + 4 + length (now bytes) ≤ view.frame-limit ⌝ }
     ensures { λ r. ⌜ r ≡ steps.pushed e (spec.change-field (frames.command command (now (bytes .entry)))) ⌝ }
 {
     let k = [command];
@@ -74,7 +78,7 @@ fn command_field(e: Encoded, command: u8, bytes: &[u8]) -> Encoded
 }
 
 fn step_field(e: Encoded, tag: u8, step: u16) -> Encoded
-    requires { ⌜ e .len ≤ 9 ⌝ }
+    requires { ⌜ e .len + 5 ≤ view.frame-limit ⌝ }
     ensures { λ r. ⌜ r ≡ steps.pushed e (spec.field tag (le16-bytes step)) ⌝ }
 {
     let b = [low(step), high(step)];
@@ -82,18 +86,15 @@ fn step_field(e: Encoded, tag: u8, step: u16) -> Encoded
 }
 
 fn change_field(e: Encoded, change: Change) -> Encoded
-    requires { ⌜ e .len ≤ 9 ⌝ }
+    requires { ⌜ e .len + 4 + frames.data-limit ≤ view.frame-limit ⌝ }
     ensures { λ r. ⌜ r ≡ steps.pushed e (spec.change-field (asked change)) ⌝ }
 {
     let ask = change.ask;
     match ask {
         Ask::Command(command) => {
             let body = change.body;
-            let count = change.count as usize;
-            if DATA_LIMIT < count {
-                return command_field(e, command, &body);
-            }
-            command_field(e, command, &body[..count])
+            let len = change.data_length();
+            command_field(e, command, &body[..len])
         }
         Ask::Raise(step) => step_field(e, tag::RAISE, step),
         Ask::Lower(step) => step_field(e, tag::LOWER, step),
@@ -103,15 +104,7 @@ fn change_field(e: Encoded, change: Change) -> Encoded
 fn order(session: SessionId, number: OrderNumber, change: Change) -> Encoded
     ensures { λ r. ⌜ r ≡ view.encoded (spec.encode (frames.order (session .0) (number .0) (asked change))) ⌝ }
 {
-    let b = numbered(session, number);
-    change_field(Encoded::empty().field(tag::ORDER, &b), change)
-}
-
-fn ack(session: SessionId, count: OrderNumber) -> Encoded
-    ensures { λ r. ⌜ r ≡ view.encoded (spec.encode (frames.ack (session .0) (count .0))) ⌝ }
-{
-    let b = numbered(session, count);
-    Encoded::empty().field(tag::ACK, &b)
+    change_field(numbered_field(tag::ORDER, session, number), change)
 }
 
 fn refuse(session: SessionId, refusal: u8) -> Encoded
@@ -133,20 +126,17 @@ pub fn encode(frame: Frame) -> Encoded
     let number = frame.number;
     match kind {
         Kind::Malformed => Encoded::empty(),
-        Kind::Opening => opening(session),
+        Kind::Opening => session_field(tag::OPENING, session),
         Kind::Welcome => welcome(session, frame.settings),
         Kind::Order => order(session, number, frame.change),
-        Kind::Ack => ack(session, number),
+        Kind::Ack => numbered_field(tag::ACK, session, number),
         Kind::Refuse(refusal) => refuse(session, refusal),
     }
 }
 
 // Writes a frame at the start of out. A refusal leaves out as it was.
 pub fn send(frame: Frame, out: &mut [u8]) -> Sent
-    ensures refusal { λ r. ⌜ refusal-of (r .verdict) ≡ view.sent-refusal (view.encoding-of (meaning frame)) (length (now (out .entry))) ⌝ }
-    ensures length { λ r. ⌜ r .len ≡ length (view.sent-bytes (view.encoding-of (meaning frame)) (length (now (out .entry)))) ⌝ }
-    ensures output { λ r. ⌜ now (out .exit) ≡ overwritten (view.sent-bytes (view.encoding-of (meaning frame)) (length (now (out .entry)))) (now (out .entry)) ⌝ }
-    ensures whole { λ r. ⌜ (view.frame-limit ≤ length (now (out .entry)) → view.sent-bytes (view.encoding-of (meaning frame)) (length (now (out .entry))) ≡ view.encoding-of (meaning frame)) ⌝ }
+    ensures { λ r. ⌜ view.Sends (view.encoding-of (meaning frame)) r (now (out .entry)) (now (out .exit)) ⌝ }
 {
     let e = encode(frame);
     let bytes = e.bytes;

@@ -3,8 +3,7 @@ use Prim.Native.Nat.{ℕ, _≤_}
 use native.Mathlib.Omega.{arith}
 use mathlib.Core.List.{List, []}
 use lib.ListN.{length}
-use Rattle.settings.specs.declared.settings.Settings.{Settings}
-use Rattle.registers.specs.Block.{Held}
+use Rattle.packet.specs.Packet.{data-most}
 use Rattle.frame.specs.declared.frame.Ask.{Ask}
 use Rattle.frame.specs.declared.frame.Ask.the-variants.{Command, Raise, Lower}
 use Rattle.frame.specs.View.{asked-as}
@@ -12,26 +11,27 @@ use Rattle.frame.specs.Frame.{data-limit, Change, ValidChange, valid-command, v
 use Rattle.controller.proofs.Keeps.{perform-held, noted-held}
 use Rattle.base.specs.Bytes.{Bytes}
 use Rattle.number.proofs.NumberLaws.{bytes-le16}
-use Rattle.order.specs.Apply.{command-byte, command-data, order-packet, apply}
+use Rattle.order.specs.Apply.{change-command, change-data, order-packet, apply}
+use Rattle.order.specs.Theorems.{ApplyHeld}
 
 -- a command's data, and those of the backlight write that a raise or lower becomes
-pub data-short : (level : ℕ) (ask : Ask) (d : List ℕ) → length d ≤ data-limit → length (command-data level (asked-as ask d)) ≤ 255
+pub data-short : (level : ℕ) (ask : Ask) (d : List ℕ) → length d ≤ data-limit → length (change-data level (asked-as ask d)) ≤ data-most
 data-short level (Command k) d h = omega arith
 data-short level (Raise n) d h = omega arith
 data-short level (Lower n) d h = omega arith
 
-pub valid-short : (level : ℕ) (change : Change) → ValidChange change → length (command-data level change) ≤ 255
+pub valid-short : (level : ℕ) (change : Change) → ValidChange change → length (change-data level change) ≤ data-most
 valid-short level _ (valid-command {k} {d} _ short _) = data-short level (Command k) d short
 valid-short level _ (valid-raise {n} _) = data-short level (Raise n) [] (omega arith)
 valid-short level _ (valid-lower {n} _) = data-short level (Lower n) [] (omega arith)
 
-data-bytes : (level : ℕ) (change : Change) → ValidChange change → Bytes (command-data level change)
+data-bytes : (level : ℕ) (change : Change) → ValidChange change → Bytes (change-data level change)
 data-bytes level _ (valid-command _ _ bytes) = bytes
 data-bytes level _ (valid-raise _) = bytes-le16 _
 data-bytes level _ (valid-lower _) = bytes-le16 _
 
-pub apply-held : (σ : Settings) (change : Change) → ValidChange change → Held σ → Held (apply σ change)
+pub apply-held : ApplyHeld
 unfolding apply
 apply-held σ change valid h =
     let level = σ .backlight in
-    perform-held _ (command-byte change) _ (data-bytes level change valid) (noted-held σ (order-packet level change) h)
+    perform-held _ (change-command change) _ (data-bytes level change valid) (noted-held σ (order-packet level change) h)

@@ -1,1 +1,2 @@
 pub mod Apply
+pub mod Theorems

@@ -4,23 +4,14 @@ use frame::Change;
 use frame::DATA_LIMIT;
 use number::high;
 use number::low;
-use packet::PACKET_LIMIT;
-use packet::Written;
-use registers::access;
-ghost use Rattle.frame.specs.Frame.{data-limit};
+use packet::Packet;
+use packet::build;
 ghost use mathlib.Core.Path.{_≡_};
 ghost use Prim.Native.Nat.{_+_, _-_, _≤_, min};
-ghost use lib.ListN.{length};
-ghost use Rattle.packet.specs.Packet.{packet-limit, packet-of};
-ghost use Rattle.base.specs.Lent.{overwritten};
+ghost use Rattle.packet.specs.Writer.{built};
+ghost use Rattle.frame.specs.Frame.{data-limit};
 ghost use Rattle.frame.specs.View.{asked};
 ghost use Rattle.order.specs.Apply as spec;
-
-// A packet's first len bytes.
-pub struct Packet {
-    pub bytes: [u8; PACKET_LIMIT],
-    pub len: usize,
-}
 
 // A command and its data, the first count bytes of body.
 pub struct Resolved {
@@ -68,32 +59,14 @@ pub(crate) fn resolve(level: u16, change: Change) -> Resolved
     match ask {
         Ask::Command(command) => {
             let body = change.body;
-            let count = change.count as usize;
-            if DATA_LIMIT < count {
-                return Resolved {
-                    command,
-                    count: DATA_LIMIT,
-                    body,
-                };
-            }
             Resolved {
                 command,
-                count,
+                count: change.data_length(),
                 body,
             }
         }
         Ask::Raise(step) => level_write(raised(level, step)),
         Ask::Lower(step) => level_write(lowered(level, step)),
-    }
-}
-
-fn written(command: u8, bytes: &[u8], out: &mut [u8]) -> usize
-    requires { ⌜ (length (now bytes) ≤ 255) × (length (now out) ≡ packet-limit) ⌝ }
-    ensures { λ r. ⌜ (r ≡ length (packet-of command (now (bytes .entry)))) × (now (out .exit) ≡ overwritten (packet-of command (now (bytes .entry))) (now (out .entry))) ⌝ }
-{
-    match packet::write(command / 2, access(command), bytes, &mut *out) {
-        Written::Length(n) => n,
-        Written::Refused(_) => 0,
     }
 }
 
@@ -103,14 +76,12 @@ pub(crate) fn packet_of(resolved: Resolved) -> Packet
 {
     let body = resolved.body;
     let count = resolved.count;
-    let mut bytes = [0u8; PACKET_LIMIT];
-    let len = written(resolved.command, &body[..count], &mut bytes);
-    Packet { bytes, len }
+    build(resolved.command, &body[..count])
 }
 
 // The packet that the box sends for a change at this backlight level.
 pub fn order_packet(level: u16, change: Change) -> Packet
-    ensures { λ r. ⌜ r ≡ spec.built (spec.order-packet level (asked change)) ⌝ }
+    ensures { λ r. ⌜ r ≡ built (spec.order-packet level (asked change)) ⌝ }
 {
     packet_of(resolve(level, change))
 }

@@ -1,9 +1,9 @@
 // The settings after an order, worked out without a controller.
-use crate::change::Packet;
 use crate::change::Resolved;
 use crate::change::packet_of;
 use crate::change::resolve;
 use frame::Change;
+use packet::Packet;
 use registers::perform;
 use settings::Flag;
 use settings::Settings;

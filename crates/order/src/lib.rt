@@ -2,6 +2,5 @@
 mod change;
 mod effect;
 
-pub use change::Packet;
 pub use change::order_packet;
 pub use effect::apply;

@@ -14,8 +14,8 @@ enum-told-2 c = search needs
 enum-told-3 : tie.Need-enum-told-3
 enum-told-3 c = search needs
 
-settings-allowed-requires : tie.Need-settings-allowed-requires
-settings-allowed-requires c κs = search needs
+in-range-requires : tie.Need-in-range-requires
+in-range-requires c κs = search needs
 
 enum-told-4 : tie.Need-enum-told-4
 enum-told-4 c = search needs
@@ -36,7 +36,7 @@ returns-2 : tie.Need-returns-2
 returns-2 c = rw (c .enum-told2 .given .1)
 
 returns-3 : tie.Need-returns-3
-returns-3 c = c .settings-allowed .ensures ∙ rw (c .before .enum-told3 .given .1)
+returns-3 c = c .in-range .ensures ∙ rw (c .before .enum-told3 .given .1)
 
 returns-4 : tie.Need-returns-4
 returns-4 c =
@@ -56,7 +56,7 @@ allowed-spec =
     enum-told
     enum-told-2
     enum-told-3
-    settings-allowed-requires
+    in-range-requires
     enum-told-4
     enum-told-5
     enum-known-kind

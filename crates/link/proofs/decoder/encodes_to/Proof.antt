@@ -3,6 +3,7 @@ use mathlib.Core.Path.{_≡_, sym, _∙_}
 use lib.Seq.{length-take-le}
 use lib.ListN.{length}
 use borrow.Author.Needs.{needs}
+use Rattle.link.specs.View.{frame-limit}
 use Rattle.link.proofs.decoder.encodes_to.Statement.{statement}
 use Rattle.link.proofs.decoder.encodes_to.Tie as tie
 
@@ -12,13 +13,13 @@ encode-requires c κs = search needs
 array-share-prefix-b : tie.Need-array-share-prefix-b
 array-share-prefix-b c =
     let e = c .before .encode in
-    let long : length (e .result .bytes) ≡ 37 = search needs in
+    let long : length (e .result .bytes) ≡ frame-limit = search needs in
     omega (arith, e .ensures .1 .1)
 
 slice-aggregate-same-bytes : tie.Need-slice-aggregate-same-bytes
 slice-aggregate-same-bytes c =
     let e = c .before .before .encode in
-    let long : length (e .result .bytes) ≡ 37 = search needs in
+    let long : length (e .result .bytes) ≡ frame-limit = search needs in
     sym (length-take-le (e .result .len) (e .result .bytes) (omega (arith, e .ensures .1 .1)))
 
 same-bytes-requires : tie.Need-same-bytes-requires

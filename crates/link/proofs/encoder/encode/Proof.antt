@@ -1,5 +1,6 @@
 use mathlib.Core.Path.{_∙_}
 use borrow.Author.Needs.{needs}
+use Rattle.link.specs.Encoding.{encode}
 use Rattle.link.proofs.Building.{whole-encoded}
 use Rattle.link.proofs.encoder.encode.Statement.{statement}
 use Rattle.link.proofs.encoder.encode.Tie as tie
@@ -13,8 +14,8 @@ empty-requires c κs = search needs
 enum-told-2 : tie.Need-enum-told-2
 enum-told-2 c = search needs
 
-opening-requires : tie.Need-opening-requires
-opening-requires c κs = search needs
+session-field-requires : tie.Need-session-field-requires
+session-field-requires c κs = search needs
 
 enum-told-3 : tie.Need-enum-told-3
 enum-told-3 c = search needs
@@ -31,8 +32,8 @@ order-requires c κs = search needs
 enum-told-5 : tie.Need-enum-told-5
 enum-told-5 c = search needs
 
-ack-requires : tie.Need-ack-requires
-ack-requires c κs = search needs
+numbered-field-requires : tie.Need-numbered-field-requires
+numbered-field-requires c κs = search needs
 
 enum-known-kind : tie.Need-enum-known-kind
 enum-known-kind c = search needs
@@ -46,9 +47,10 @@ returns c =
     whole-encoded f (c .empty .result) (search needs) (c .empty .ensures ∙ rw (c .before .enum-told .given .1))
 
 returns-2 : tie.Need-returns-2
+unfolding encode
 returns-2 c =
     let f = c .before .before .before .before .before .args .frame in
-    whole-encoded f (c .opening .result) (search needs) (c .opening .ensures ∙ rw (c .before .enum-told2 .given .1))
+    whole-encoded f (c .session-field .result) (search needs) (c .session-field .ensures ∙ rw (c .before .enum-told2 .given .1))
 
 returns-3 : tie.Need-returns-3
 returns-3 c =
@@ -61,9 +63,10 @@ returns-4 c =
     whole-encoded f (c .order .result) (search needs) (c .order .ensures ∙ rw (c .before .enum-told4 .given .1))
 
 returns-5 : tie.Need-returns-5
+unfolding encode
 returns-5 c =
     let f = c .before .before .before .before .before .args .frame in
-    whole-encoded f (c .ack .result) (search needs) (c .ack .ensures ∙ rw (c .before .enum-told5 .given .1))
+    whole-encoded f (c .numbered-field .result) (search needs) (c .numbered-field .ensures ∙ rw (c .before .enum-told5 .given .1))
 
 returns-6 : tie.Need-returns-6
 returns-6 c =
@@ -77,13 +80,13 @@ encode-spec =
     enum-told
     empty-requires
     enum-told-2
-    opening-requires
+    session-field-requires
     enum-told-3
     welcome-requires
     enum-told-4
     order-requires
     enum-told-5
-    ack-requires
+    numbered-field-requires
     enum-known-kind
     refuse-requires
     returns

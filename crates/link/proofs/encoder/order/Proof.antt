@@ -1,47 +1,32 @@
 use native.Mathlib.Omega.{arith}
 use mathlib.Core.Path.{_∙_}
-use borrow.Author.Needs.{needs}
-use Rattle.link.proofs.FrameLaws.{asked-short}
-use Rattle.link.specs.Steps.{pushed}
+use mathlib.Core.List.{_++_}
+use Rattle.number.specs.Number.{le16-bytes, le32-bytes}
 use Rattle.frame.specs.View.{asked}
 use Rattle.frame.specs.Frame.{order}
-use Rattle.link.specs.Encoding.{encode}
-use Rattle.link.proofs.Building.{pushed-append, built}
+use Rattle.link.specs.Encoding.{field, change-field, encode}
+use Rattle.link.proofs.Building.{pushed-encoded}
+use Rattle.link.proofs.FrameLaws.{asked-short, encode-length}
+use borrow.Author.Needs.{needs}
 use Rattle.link.proofs.encoder.order.Statement.{statement}
 use Rattle.link.proofs.encoder.order.Tie as tie
 
-numbered-requires : tie.Need-numbered-requires
-numbered-requires c κs = search needs
-
-empty-requires : tie.Need-empty-requires
-empty-requires c κs = search needs
-
-slice-aggregate-field : tie.Need-slice-aggregate-field
-slice-aggregate-field c = search needs
-
-field-requires : tie.Need-field-requires
-field-requires c κs = rw (c .before .empty .ensures, c .before .before .numbered .ensures) (omega arith)
+numbered-field-requires : tie.Need-numbered-field-requires
+numbered-field-requires c κs = search needs
 
 change-field-requires : tie.Need-change-field-requires
-unfolding pushed
-change-field-requires c κs = rw (c .field .ensures, c .before .before .empty .ensures, c .before .before .before .numbered .ensures) (omega arith)
+change-field-requires c κs = rw (c .numbered-field .ensures) (omega arith)
 
 returns : tie.Need-returns
 unfolding encode
 returns c =
-    let a = c .before .before .before .before .before .args in
+    let a = c .before .before .args in
+    let s = a .session .0 in
+    let n = a .number .0 in
+    let change = asked (a .change) in
     c .change-field .ensures
-    ∙ rw (c .before .field .ensures, c .before .before .before .empty .ensures, c .before .before .before .before .numbered .ensures)
-    (pushed-append _ _ _)
-    ∙ built (order (a .session .0) (a .number .0) (asked (a .change))) (asked-short (a .change) (search needs))
+    ∙ rw (c .before .numbered-field .ensures)
+    (pushed-encoded (field 0x12 (le32-bytes s ++ le16-bytes n)) (change-field change) (encode-length (order s n change) (asked-short (a .change) (search needs))))
 
 pub order-spec : {M : Type 1} → statement M
-order-spec =
-    tie.close
-    (tie.spec
-    numbered-requires
-    empty-requires
-    slice-aggregate-field
-    field-requires
-    change-field-requires
-    returns)
+order-spec = tie.close (tie.spec numbered-field-requires change-field-requires returns)

@@ -1,9 +1,11 @@
 use native.Mathlib.Omega.{arith}
 use mathlib.Core.Path.{refl, _∙_}
-use borrow.Author.Needs.{needs}
+use mathlib.Core.List.{[]}
 use Rattle.frame.specs.Frame.{refuse}
 use Rattle.link.specs.Encoding.{encode}
-use Rattle.link.proofs.Building.{built}
+use Rattle.link.proofs.Building.{pushed-encoded}
+use Rattle.link.proofs.FrameLaws.{encode-length}
+use borrow.Author.Needs.{needs}
 use Rattle.link.proofs.encoder.refuse.Statement.{statement}
 use Rattle.link.proofs.encoder.refuse.Tie as tie
 
@@ -35,7 +37,10 @@ returns : tie.Need-returns
 unfolding encode
 returns c =
     let a = c .before .before .before .before .args in
-    c .field .ensures ∙ rw (c .before .before .empty .ensures, c .before .before .before .le32-bytes .ensures) (built (refuse (a .session .0) (a .refusal)) refl)
+    let f = refuse (a .session .0) (a .refusal) in
+    c .field .ensures
+    ∙ rw (c .before .before .empty .ensures, c .before .before .before .le32-bytes .ensures)
+    (pushed-encoded [] (encode f) (encode-length f refl))
 
 pub refuse-spec : {M : Type 1} → statement M
 refuse-spec =

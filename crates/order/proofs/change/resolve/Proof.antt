@@ -1,7 +1,6 @@
-use mathlib.Core.Path.{_≡_, refl}
+use mathlib.Core.Path.{refl}
 use native.Mathlib.Omega.{arith}
-use lib.ListN.{length}
-use lib.Seq.{take-all}
+use Rattle.frame.proofs.Laws.{data-taken}
 use borrow.Author.Needs.{needs}
 use Rattle.order.proofs.change.resolve.Statement.{statement}
 use Rattle.order.proofs.change.resolve.Tie as tie
@@ -9,19 +8,8 @@ use Rattle.order.proofs.change.resolve.Tie as tie
 enum-known-ask : tie.Need-enum-known-ask
 enum-known-ask c = search needs
 
-cast-count : tie.Need-cast-count
-cast-count c = search needs
-
-returns : tie.Need-returns
-returns c =
-    let change = c .before .before .before .before .before .before .args .change in
-    let is-command = c .before .before .before .before .ask .given .1 in
-    let long : length (change .body) ≡ 16 = search needs in
-    record {
-      command-is = rw is-command;
-      data-is = rw (is-command, take-all 16 (change .body) (omega arith), take-all (change .count) (change .body) (omega arith));
-      short = omega arith;
-    }
+data-length-requires : tie.Need-data-length-requires
+data-length-requires c κs = search needs
 
 enum-known-ask-2 : tie.Need-enum-known-ask-2
 enum-known-ask-2 c = search needs
@@ -41,18 +29,23 @@ lowered-requires c κs = search needs
 level-write-requires-2 : tie.Need-level-write-requires-2
 level-write-requires-2 c κs = search needs
 
+returns : tie.Need-returns
+returns c =
+    let change = c .before .before .before .before .before .args .change in
+    let is-command = c .before .before .before .ask .given .1 in
+    record {
+      command-is = rw is-command;
+      data-is = rw (c .data-length .ensures, is-command, data-taken change (search needs));
+      short = omega (arith, c .data-length .ensures);
+    }
+
 returns-2 : tie.Need-returns-2
 returns-2 c =
-    let is-command = c .before .before .before .before .ask .given .1 in
-    record { command-is = rw is-command; data-is = rw is-command; short = c .if1 .left }
-
-returns-3 : tie.Need-returns-3
-returns-3 c =
     let is-raise = c .before .before .before .ask2 .given .1 in
     rw (c .level-write .ensures, is-raise, c .before .raised .ensures) (record { command-is = refl; data-is = refl; short = omega arith })
 
-returns-4 : tie.Need-returns-4
-returns-4 c =
+returns-3 : tie.Need-returns-3
+returns-3 c =
     let is-lower = c .before .before .before .ask3 .given .1 in
     rw (c .level-write2 .ensures, is-lower, c .before .lowered .ensures) (record { command-is = refl; data-is = refl; short = omega arith })
 
@@ -61,14 +54,13 @@ resolve-spec =
     tie.close
     (tie.spec
     enum-known-ask
-    cast-count
-    returns
+    data-length-requires
     enum-known-ask-2
     raised-requires
     level-write-requires
     enum-known-ask-3
     lowered-requires
     level-write-requires-2
+    returns
     returns-2
-    returns-3
-    returns-4)
+    returns-3)

@@ -2,7 +2,9 @@ use mathlib.Core.Path.{_≡_}
 use lib.ListN.{take}
 use Rattle.packet.specs.Packet.{packet-of}
 use Rattle.order.specs.Apply.{apply, resolved-data}
-use Rattle.order.proofs.Laws.{packet-of-short, resolved-short, built-front}
+use Rattle.packet.proofs.Building.{built-front}
+use Rattle.packet.proofs.PacketTheorems.{packet-of-short}
+use Rattle.order.proofs.Laws.{resolved-short}
 use borrow.Author.Needs.{needs}
 use Rattle.order.proofs.effect.apply.Statement.{statement}
 use Rattle.order.proofs.effect.apply.Tie as tie

@@ -3,18 +3,19 @@ use native.Mathlib.Omega.{arith}
 use lib.ListN.{length}
 use lib.Seq.{length-take-le}
 use borrow.Author.Needs.{needs}
+use Rattle.packet.specs.Packet.{packet-limit}
 use Rattle.order.proofs.effect.note.Statement.{statement}
 use Rattle.order.proofs.effect.note.Tie as tie
 
 array-share-prefix-bytes : tie.Need-array-share-prefix-bytes
 array-share-prefix-bytes c =
-    let long : length (c .before .args .packet .bytes) ≡ 516 = search needs in
+    let long : length (c .before .args .packet .bytes) ≡ packet-limit = search needs in
     omega arith
 
 slice-aggregate-has-escape : tie.Need-slice-aggregate-has-escape
 slice-aggregate-has-escape c =
     let p = c .before .before .args .packet in
-    let long : length (p .bytes) ≡ 516 = search needs in
+    let long : length (p .bytes) ≡ packet-limit = search needs in
     sym (length-take-le (p .len) (p .bytes) (omega arith))
 
 has-escape-requires : tie.Need-has-escape-requires

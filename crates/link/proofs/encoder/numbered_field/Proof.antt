@@ -1,11 +1,12 @@
 use native.Mathlib.Omega.{arith}
-use mathlib.Core.Path.{refl, _∙_}
+use mathlib.Core.Path.{_∙_}
+use mathlib.Core.List.{[], _++_}
+use Rattle.number.specs.Number.{le16-bytes, le32-bytes}
+use Rattle.link.specs.Encoding.{field}
+use Rattle.link.proofs.Building.{pushed-encoded}
 use borrow.Author.Needs.{needs}
-use Rattle.frame.specs.Frame.{ack}
-use Rattle.link.specs.Encoding.{encode}
-use Rattle.link.proofs.Building.{built}
-use Rattle.link.proofs.encoder.ack.Statement.{statement}
-use Rattle.link.proofs.encoder.ack.Tie as tie
+use Rattle.link.proofs.encoder.numbered_field.Statement.{statement}
+use Rattle.link.proofs.encoder.numbered_field.Tie as tie
 
 numbered-requires : tie.Need-numbered-requires
 numbered-requires c κs = search needs
@@ -20,12 +21,13 @@ field-requires : tie.Need-field-requires
 field-requires c κs = rw (c .before .empty .ensures, c .before .before .numbered .ensures) (omega arith)
 
 returns : tie.Need-returns
-unfolding encode
 returns c =
     let a = c .before .before .before .before .args in
-    c .field .ensures ∙ rw (c .before .before .empty .ensures, c .before .before .before .numbered .ensures) (built (ack (a .session .0) (a .count .0)) refl)
+    c .field .ensures
+    ∙ rw (c .before .before .empty .ensures, c .before .before .before .numbered .ensures)
+    (pushed-encoded [] (field (a .tag) (le32-bytes (a .session .0) ++ le16-bytes (a .number .0))) (omega arith))
 
-pub ack-spec : {M : Type 1} → statement M
-ack-spec =
+pub numbered-field-spec : {M : Type 1} → statement M
+numbered-field-spec =
     tie.close
     (tie.spec numbered-requires empty-requires slice-aggregate-field field-requires returns)
