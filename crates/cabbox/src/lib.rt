@@ -13,13 +13,16 @@ use link::FRAME_LIMIT;
 use obey::obey;
 use session::Cab;
 ghost use mathlib.Core.Path.{_≡_};
+ghost use mathlib.Core.Bool.{cond};
+ghost use lib.Dec.{eqb};
 ghost use lib.ListN.{length};
 ghost use Rattle.base.specs.Refusal.{number};
 ghost use Prim.Native.Nat.{_≤_};
-ghost use Rattle.frame.specs.View.{asked, meaning, refusal-of};
-ghost use Rattle.link.specs.View.{frame-limit};
+ghost use Rattle.frame.specs.View.{asked, meaning};
+ghost use Rattle.link.specs.View.{encoding-of, frame-limit};
+ghost use Rattle.base.specs.Lent.{overwritten};
 ghost use Rattle.session.specs.Box as spec;
-ghost use Rattle.session.specs.Turn.{Realises, refused-by};
+ghost use Rattle.session.specs.Turn.{refused-by};
 ghost use Rattle.cabbox.specs.View as view;
 
 // What a frame in gives. A frame of len bytes was written at the start of the output.
@@ -95,15 +98,22 @@ fn with_session(cab: Cab, session: SessionId) -> Cab
     }
 }
 
+// To OPEN of the open session.
+fn reminded(cab: Cab) -> Turn
+    ensures { λ r. ⌜ view.turn r ≡ cond (eqb (cab .taken .0) 0) (spec.welcomed cab) (spec.acknowledged cab) ⌝ }
+{
+    if cab.taken.0 == 0 {
+        return welcomed(cab);
+    }
+    acknowledged(cab)
+}
+
 fn opened_again(cab: Cab, session: SessionId) -> Turn
     ensures { λ r. ⌜ view.turn r ≡ spec.opened-again cab (session .0) ⌝ }
 {
     if cab.active {
         if session.0 == cab.highest.0 {
-            if cab.taken.0 == 0 {
-                return welcomed(cab);
-            }
-            return acknowledged(cab);
+            return reminded(cab);
         }
         return refused(cab, session, Refusal::WrongSession);
     }
@@ -172,9 +182,36 @@ fn received(cab: Cab, frame: Frame) -> Turn
     }
 }
 
+// Writes a frame where there is room for any.
+fn write(frame: Frame, out: &mut [u8]) -> usize
+    requires { ⌜ frame-limit ≤ length (now out) ⌝ }
+    ensures length { λ r. ⌜ r ≡ length (encoding-of (meaning frame)) ⌝ }
+    ensures output { λ r. ⌜ now (out .exit) ≡ overwritten (encoding-of (meaning frame)) (now (out .entry)) ⌝ }
+{
+    link::send(frame, &mut *out).len
+}
+
+fn answer(turn: Turn, out: &mut [u8]) -> Answered
+    requires { ⌜ frame-limit ≤ length (now out) ⌝ }
+    ensures { λ r. ⌜ view.Gives (view.turn turn) r (now (out .entry)) (now (out .exit)) ⌝ }
+{
+    let cab = turn.cab;
+    let verdict = turn.verdict;
+    let len = write(turn.frame, &mut *out);
+    Answered { cab, verdict, len }
+}
+
+// Takes a frame where there is room for any answer.
+fn respond(cab: Cab, frame: Frame, out: &mut [u8]) -> Answered
+    requires { ⌜ frame-limit ≤ length (now out) ⌝ }
+    ensures { λ r. ⌜ view.Gives (spec.received cab (meaning frame)) r (now (out .entry)) (now (out .exit)) ⌝ }
+{
+    answer(received(cab, frame), &mut *out)
+}
+
 // Takes any bytes as a frame, and writes the answer at the start of out.
 pub fn frame_in(cab: Cab, bytes: &[u8], out: &mut [u8]) -> Answered
-    ensures { λ r. ⌜ Realises (spec.frame-in cab (now (bytes .entry)) (length (now (out .entry)))) (r .cab) (refusal-of (r .verdict)) (r .len) (now (out .entry)) (now (out .exit)) ⌝ }
+    ensures { λ r. ⌜ view.Gives (spec.frame-in cab (now (bytes .entry)) (length (now (out .entry)))) r (now (out .entry)) (now (out .exit)) ⌝ }
 {
     if out.len() < FRAME_LIMIT {
         return Answered {
@@ -183,17 +220,5 @@ pub fn frame_in(cab: Cab, bytes: &[u8], out: &mut [u8]) -> Answered
             len: 0,
         };
     }
-    answer(received(cab, link::decode(bytes)), &mut *out)
-}
-
-// Writes a turn's frame.
-fn answer(turn: Turn, out: &mut [u8]) -> Answered
-    requires { ⌜ frame-limit ≤ length (now out) ⌝ }
-    ensures { λ r. ⌜ Realises (view.turn turn) (r .cab) (refusal-of (r .verdict)) (r .len) (now (out .entry)) (now (out .exit)) ⌝ }
-{
-    let cab = turn.cab;
-    let verdict = turn.verdict;
-    let frame = turn.frame;
-    let len = link::send(frame, &mut *out).len;
-    Answered { cab, verdict, len }
+    respond(cab, link::decode(bytes), &mut *out)
 }

@@ -1,1 +1,2 @@
+pub mod IssueLaws
 pub mod Turns

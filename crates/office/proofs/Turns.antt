@@ -1,63 +1,114 @@
--- The clauses of a call that may write a frame, from its turn.
-use mathlib.Core.Path.{_≡_, refl, sym, subst, _∙_}
-use mathlib.Core.Option.{Option, none, some}
-use mathlib.Core.Bool.{true, false}
+-- A call that is refused, or writes a frame: its contract from the refusal found and from what was done.
+use mathlib.Core.Path.{_≡_, refl, sym, subst, ap, _∙_}
+use mathlib.Core.Option.{Option, none, some, Option·some-injective, Option·none-ne-some}
+use mathlib.Core.Bool.{Bool, true, false, not}
 use mathlib.Core.List.{List, [], _∷_}
-use Prim.Native.Nat.{ℕ, zero, suc, _+_, _-_, _<_, _≤_}
+use Prim.Native.Nat.{ℕ, zero, suc, _<_, _≤_}
+use native.Mathlib.Omega.{arith}
 use native.Mathlib.Nat.{not-suc-le-zero, le-of-suc-le-suc}
 use lib.ListN.{length, getD}
-use borrow.Author.Tests.{le-ltb, lt-leb, ne-eqb}
+use lib.Dec.{eqb, leb, ltb}
+use borrow.Author.Tests.{ltb-true, ltb-false, not-true, not-false}
+use Rattle.base.proofs.Tests.{cond-cases}
 use Rattle.base.specs.Refusal.{number}
 use Rattle.base.specs.declared.refusal.Refusal.{Refusal}
 use Rattle.base.specs.declared.refusal.Refusal.the-variants.{MalformedFrame}
-use Rattle.frame.specs.Frame.{Change, too-long, Frame, order}
+use Rattle.frame.specs.Frame.{Frame, opening}
+use Rattle.frame.specs.View.{refusal-of}
+use Rattle.frame.specs.declared.verdict.Verdict.{Verdict}
+use Rattle.frame.specs.declared.verdict.Verdict.the-variants.{Accepted, Refused}
 use Rattle.link.specs.View.{frame-limit}
 use Rattle.session.specs.declared.Office.{Office}
 use Rattle.session.specs.declared.Order.{Order}
-use Rattle.office.specs.declared.Received.{Received}
-use Rattle.office.specs.declared.Turned.{Turned}
-use Rattle.frame.specs.declared.verdict.Verdict.the-variants.{Accepted, Refused}
-use Rattle.session.specs.Office.{is-live, with-order, issue}
-use Rattle.session.specs.Turn.{Turn, Realises, wrote, silent, refused}
-use Rattle.frame.specs.View.{refusal-of}
+use Rattle.session.specs.Office.{is-awaiting, is-live, open-session, reopen, resend}
+use Rattle.session.specs.Turn.{Turn, wrote, silent, refused}
+use Rattle.office.specs.declared.answer.Answered.{Answered}
+use Rattle.office.specs.declared.receiving.Received.{Received}
+use Rattle.office.specs.View.{Gives, Takes, accepted, awaiting, kept-order}
 
--- r is what the turn gives, and it turns the lent bytes `out` into `after`
-abbrev pub Gives : Turn Office → Turned → List ℕ → List ℕ → Type 0
-Gives t r out after = Realises t (r .office) (refusal-of (r .verdict)) (r .len) out after
+-- ---- a turn that refuses, or holds to Fits and writes the frame f
 
-pub gives-refusal : (t : Turn Office) (o : Office) (why : Refusal) (r : Turned) (out : List ℕ) → t ≡ refused o (number why) →
-    r ≡ record { office = o; verdict = Refused why; len = 0 } → Gives t r out out
-gives-refusal t o why r out p q = rw (p, q) (record { state-is = refl; refusal-is = refl; length-is = refl; output-is = refl })
+pub data Decided (o : Office) (Fits : Type 0) (after : Office) (f : Frame) : Turn Office → Type 0 where
+  no : {why : ℕ} → Decided o Fits after f (refused o why)
+  yes : Fits → Decided o Fits after f (wrote after f)
 
--- equal turns give the same
-pub gives-equal : (t u : Turn Office) (r : Turned) (out after : List ℕ) → t ≡ u → Gives t r out after → Gives u r out after
-gives-equal t u r out after e given = subst (λ (v : Turn Office). Gives v r out after) e given
+module _ {o after : Office} {Fits : Type 0} {f : Frame} where
+  when-refused : {t : Turn Office} → Decided o Fits after f t → (why : ℕ) → t .refusal ≡ some why → t ≡ refused o why
+  when-refused no why e = rw (Option·some-injective _ _ e)
+  when-refused (yes _) why e = absurd (Option·none-ne-some _ e)
 
-pub gives-frame : (t : Turn Office) (o : Office) (f : Frame) (x : Office) (m : Option Frame) (r : Turned) (out after : List ℕ) → t ≡ wrote o f → x ≡ o → m ≡ some f →
-    Gives (record { state = x; refusal = none; frame = m }) r out after → Gives t r out after
-gives-frame t o f x m r out after t-is x-is m-is given =
-    gives-equal (record { state = x; refusal = none; frame = m }) t r out after ((λ i. record { state = x-is i; refusal = none; frame = m-is i }) ∙ sym t-is) given
+  when-accepted : {t : Turn Office} → Decided o Fits after f t → t .refusal ≡ none → Fits × (t ≡ wrote after f)
+  when-accepted no e = absurd (Option·none-ne-some _ (sym e))
+  when-accepted (yes fits) e = (fits, refl)
+
+  -- the verdict tells which
+  module _ {t : Turn Office} (d : Decided o Fits after f t) (v : Verdict) (told : refusal-of v ≡ t .refusal) where
+    pub fits : v ≡ Accepted → Fits
+    fits e = when-accepted d (sym told ∙ ap refusal-of e) .0
+
+    pub gives-frame : v ≡ Accepted → (r : Answered) (before after' : List ℕ) → Gives (wrote after f) r before after' → Gives t r before after'
+    gives-frame e r before after' given =
+        subst (λ (u : Turn Office). Gives u r before after') (sym (when-accepted d (sym told ∙ ap refusal-of e) .1)) given
+
+    pub gives-refusal : (why : Refusal) → v ≡ Refused why → (r : Answered) (out : List ℕ) → r ≡ record { office = o; verdict = Refused why; len = 0 } → Gives t r out out
+    gives-refusal why e r out made =
+        rw (when-refused d (number why) (sym told ∙ ap refusal-of e), made) (record { state-is = refl; refusal-is = refl; length-is = refl; output-is = refl })
+
+-- equal offices and frames give the same
+pub gives-equal : {x o : Office} {m n : Option Frame} → x ≡ o → m ≡ n → (r : Answered) (before after : List ℕ) →
+    Gives (accepted x m) r before after → Gives (accepted o n) r before after
+gives-equal p q r before after given = subst (λ (t : Turn Office). Gives t r before after) (λ i. accepted (p i) (q i)) given
+
+-- ---- the rules
+
+pub open-decided : (o : Office) (s room : ℕ) → Decided o (frame-limit ≤ room) (awaiting s) (opening s) (open-session o s room)
+unfolding open-session
+open-decided o s room =
+    let D = Decided o (frame-limit ≤ room) (awaiting s) (opening s) in
+    cond-cases D (eqb s 0) _ _ (λ _. no)
+    (λ _. cond-cases D (ltb room frame-limit) _ _ (λ _. no) (λ fitting. yes (ltb-false room frame-limit fitting)))
+
+pub reopen-decided : (o : Office) (room : ℕ) → Decided o (frame-limit ≤ room) o (opening (o .session .0)) (reopen o room)
+unfolding reopen
+reopen-decided o room =
+    let D = Decided o (frame-limit ≤ room) o (opening (o .session .0)) in
+    cond-cases D (is-awaiting (o .stage)) _ _
+    (λ _. cond-cases D (ltb room frame-limit) _ _ (λ _. no) (λ fitting. yes (ltb-false room frame-limit fitting)))
+    (λ _. no)
+
+pub resend-decided : (o : Office) (n room : ℕ) → Decided o ((1 ≤ n) × (frame-limit ≤ room)) o (kept-order o n) (resend o n room)
+unfolding resend
+resend-decided o n room =
+    let D = Decided o ((1 ≤ n) × (frame-limit ≤ room)) o (kept-order o n) in
+    cond-cases D (is-live (o .stage)) _ _
+    (λ _. cond-cases D (ltb (o .confirmed .0) n) _ _
+    (λ above. cond-cases D (leb n (o .issued .0)) _ _
+    (λ _. cond-cases D (ltb room frame-limit) _ _ (λ _. no)
+    (λ fitting. yes (omega (arith, ltb-true (o .confirmed .0) n above), ltb-false room frame-limit fitting)))
+    (λ _. no))
+    (λ _. no))
+    (λ _. no)
+
+-- ---- frames taken
+
+pub takes-frame : (t : Turn Office) (o : Office) (r : Received) → t ≡ silent o → r ≡ record { office = o; verdict = Accepted } → Takes t r
+takes-frame t o r p q = rw (p, q) (record { state-is = refl; refusal-is = refl })
+
+pub takes-none : (t : Turn Office) (o : Office) (r : Received) → t ≡ refused o 4 → r ≡ record { office = o; verdict = Refused MalformedFrame } → Takes t r
+takes-none t o r p q = rw (p, q) (record { state-is = refl; refusal-is = refl })
+
+-- ---- a call's answer b, tested as `!b`
+
+pub passed : {b test : Bool} → b ≡ test → not b ≡ false → test ≡ true
+passed {b} e tested = sym e ∙ not-false b tested
+
+pub failed : {b test : Bool} → b ≡ test → not b ≡ true → test ≡ false
+failed {b} e tested = sym e ∙ not-true b tested
+
+-- ---- the window
 
 -- an order that is there, whatever stands for one that is not
 pub order-there : (window : List Order) (i : ℕ) (d e : Order) → i < length window → getD window i d ≡ getD window i e
 order-there [] i d e h = absurd (not-suc-le-zero h)
 order-there (x ∷ window) zero d e h = refl
 order-there (x ∷ window) (suc i) d e h = order-there window i d e (le-of-suc-le-suc h)
-
-pub issued-whole : (o : Office) (change : Change) (room : ℕ) → is-live (o .stage) ≡ true → frame-limit ≤ room → too-long change ≡ false →
-    (o .issued .0 ≡ 65535 → ⊥) → o .issued .0 - o .confirmed .0 < 8 →
-    issue o change room ≡ wrote (with-order o change) (order (o .session .0) (o .issued .0 + 1) change)
-unfolding issue
-issued-whole o change room stage fits long left window =
-    rw (stage, le-ltb room frame-limit fits, long, ne-eqb (o .issued .0) 65535 left, lt-leb 8 (o .issued .0 - o .confirmed .0) window)
-
--- ---- frames taken
-
-abbrev pub Takes : Turn Office → Received → Type 0
-Takes t r = (r .office ≡ t .state) × (refusal-of (r .verdict) ≡ t .refusal)
-
-pub takes-frame : (t : Turn Office) (o : Office) (r : Received) → t ≡ silent o → r ≡ record { office = o; verdict = Accepted } → Takes t r
-takes-frame t o r p q = rw (p, q) (refl, refl)
-
-pub takes-none : (t : Turn Office) (o : Office) (r : Received) → t ≡ refused o 4 → r ≡ record { office = o; verdict = Refused MalformedFrame } → Takes t r
-takes-none t o r p q = rw (p, q) (refl, refl)

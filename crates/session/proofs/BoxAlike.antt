@@ -18,7 +18,7 @@ use Rattle.link.specs.View.{frame-limit}
 use Rattle.order.proofs.Keeps.{valid-short}
 use Rattle.order.proofs.Laws.{obeys}
 use Rattle.session.specs.declared.Cab.{Cab}
-use Rattle.session.proofs.Alike.{Alike, cond-both, same-test, eqb-sym}
+use Rattle.session.proofs.Alike.{Alike, answered-alike, cond-both, same-test, eqb-sym}
 use Rattle.session.specs.Box.{cab-of, started, welcomed, acknowledged, opened-again, opened, sent, obeyed, ordered-here, ordered, received, frame-in}
 use Rattle.session.specs.History.{BoxHistory, restarted, with-taken, updated, rule-open, rule-order, rule-box-frame}
 use Rattle.session.proofs.Tools.{updated-same, length-one-more}
@@ -36,10 +36,6 @@ pub data CabAlike : Cab → BoxHistory → Type 0 where
 
 abbrev pub BoxAlike : Turn Cab → Turn BoxHistory → Type 0
 BoxAlike t u = Alike CabAlike t u
-
-answered-alike : {c : Cab} {b : BoxHistory} {refusal : Option ℕ} {frame : Option Frame} → CabAlike c b →
-    BoxAlike (record { state = c; refusal = refusal; frame = frame }) (record { state = b; refusal = refusal; frame = frame })
-answered-alike a = record { states = a; same-refusal = refl; same-frame = refl }
 
 pub restart-alike : (b : BoxHistory) (told : ℕ) → BoxAlike (silent (started told)) (silent (restarted b told))
 restart-alike b told = answered-alike (closed fresh-ready)
@@ -59,18 +55,18 @@ again-alike : (κ : Controller) (highest : ℕ) (taken : ℕ → List Change) �
     BoxAlike (cond (eqb (length (taken highest)) 0) (welcomed c) (acknowledged c))
     (cond (eqb (length (taken s)) 0) (wrote b (welcome s (b .settings))) (wrote b (ack s (length (taken s)))))
 again-alike κ highest taken ready s e =
-    rw (← e) (cond-both BoxAlike (eqb (length (taken highest)) 0) _ _ _ _ (λ _. answered-alike (active ready)) (λ _. answered-alike (active ready)))
+    rw (← e) (cond-both BoxAlike (eqb (length (taken highest)) 0) (λ _. answered-alike (active ready)) (λ _. answered-alike (active ready)))
 
-open-alike : (c : Cab) (b : BoxHistory) → CabAlike c b → (s : ℕ) → BoxAlike (opened c s) (rule-open b s)
+open-alike : {c : Cab} {b : BoxHistory} → CabAlike c b → (s : ℕ) → BoxAlike (opened c s) (rule-open b s)
 unfolding opened opened-again rule-open
-open-alike _ _ (closed {κ} {highest} {count} {taken} ready) s =
-    cond-both BoxAlike (ltb highest s) _ _ _ _
+open-alike (closed {κ} {highest} {count} {taken} ready) s =
+    cond-both BoxAlike (ltb highest s)
     (λ _. answered-alike (newly-opened κ taken s ready))
     (λ _. answered-alike (closed ready))
-open-alike _ _ (active {κ} {highest} {taken} ready) s =
-    cond-both BoxAlike (ltb highest s) _ _ _ _
+open-alike (active {κ} {highest} {taken} ready) s =
+    cond-both BoxAlike (ltb highest s)
     (λ _. answered-alike (newly-opened κ taken s ready))
-    (λ _. rw (eqb-sym s highest) (cond-both BoxAlike (eqb highest s) _ _ _ _
+    (λ _. rw (eqb-sym s highest) (cond-both BoxAlike (eqb highest s)
     (λ e. again-alike κ highest taken ready s (eqb-true highest s e))
     (λ _. answered-alike (active ready))))
 
@@ -104,37 +100,36 @@ here-alike : (κ : Controller) (highest : ℕ) (taken : ℕ → List Change) (n 
     (refused-by b s 7)))
 unfolding ordered-here
 here-alike κ highest taken n change ready valid s e =
-    rw (← e) (cond-both BoxAlike (leb n (length (taken highest))) _ _ _ _ (λ _. answered-alike (active ready))
-    (λ _. rw (next-test n (length (taken highest))) (cond-both BoxAlike (eqb n (length (taken highest) + 1)) _ _ _ _
+    rw (← e) (cond-both BoxAlike (leb n (length (taken highest))) (λ _. answered-alike (active ready))
+    (λ _. rw (next-test n (length (taken highest))) (cond-both BoxAlike (eqb n (length (taken highest) + 1))
     (λ next. answered-alike (taken-alike κ highest taken n change ready valid (eqb-true n (length (taken highest) + 1) next)))
     (λ _. answered-alike (active ready)))))
 
-order-alike : (c : Cab) (b : BoxHistory) → CabAlike c b → (s n : ℕ) (change : Change) → ValidChange change →
+order-alike : {c : Cab} {b : BoxHistory} → CabAlike c b → (s n : ℕ) (change : Change) → ValidChange change →
     BoxAlike (ordered c s n change) (rule-order (b .session) b s n change)
 unfolding ordered rule-order
-order-alike _ _ (closed ready) s n change valid = answered-alike (closed ready)
-order-alike _ _ (active {κ} {highest} {taken} ready) s n change valid =
-    rw (eqb-sym s highest) (cond-both BoxAlike (eqb highest s) _ _ _ _
+order-alike (closed ready) s n change valid = answered-alike (closed ready)
+order-alike (active {κ} {highest} {taken} ready) s n change valid =
+    rw (eqb-sym s highest) (cond-both BoxAlike (eqb highest s)
     (λ e. here-alike κ highest taken n change ready valid s (eqb-true highest s e))
     (λ _. answered-alike (active ready)))
 
 -- ---- any frame
 
-read-alike : (c : Cab) (b : BoxHistory) → CabAlike c b → (m : Option Frame) → ((f : Frame) → m ≡ some f → Valid f) →
+read-alike : {c : Cab} {b : BoxHistory} → CabAlike c b → (m : Option Frame) → ((f : Frame) → m ≡ some f → Valid f) →
     BoxAlike (received c m) (rule-box-frame b m)
 unfolding received rule-box-frame
-read-alike c b a none valid = answered-alike a
-read-alike c b a (some (opening s)) valid = open-alike c b a s
-read-alike c b a (some (welcome s σ)) valid = answered-alike a
-read-alike c b a (some (order s n change)) valid = by-valid (valid (order s n change) refl)
+read-alike a none valid = answered-alike a
+read-alike a (some (opening s)) valid = open-alike a s
+read-alike a (some (welcome s σ)) valid = answered-alike a
+read-alike {c} {b} a (some (order s n change)) valid = by-valid (valid (order s n change) refl)
   where
     by-valid : Valid (order s n change) → BoxAlike (ordered c s n change) (rule-order (b .session) b s n change)
-    by-valid (valid-order _ _ _ v) = order-alike c b a s n change v
-read-alike c b a (some (ack s k)) valid = answered-alike a
-read-alike c b a (some (refuse s r)) valid = answered-alike a
+    by-valid (valid-order _ _ _ v) = order-alike a s n change v
+read-alike a (some (ack s k)) valid = answered-alike a
+read-alike a (some (refuse s r)) valid = answered-alike a
 
-pub box-alike : (c : Cab) (b : BoxHistory) → CabAlike c b → (bytes : List ℕ) (room : ℕ) → ((f : Frame) → decode bytes ≡ some f → Valid f) →
+pub box-alike : {c : Cab} {b : BoxHistory} → CabAlike c b → (bytes : List ℕ) (room : ℕ) → ((f : Frame) → decode bytes ≡ some f → Valid f) →
     BoxAlike (frame-in c bytes room) (cond (ltb room frame-limit) (refused b 1) (rule-box-frame b (decode bytes)))
 unfolding frame-in
-box-alike c b a bytes room valid =
-    cond-both BoxAlike (ltb room frame-limit) _ _ _ _ (λ _. answered-alike a) (λ _. read-alike c b a (decode bytes) valid)
+box-alike a bytes room valid = cond-both BoxAlike (ltb room frame-limit) (λ _. answered-alike a) (λ _. read-alike a (decode bytes) valid)

@@ -1,7 +1,17 @@
-pub mod Alike
+-- Demand 3 in three parts, joined in Theorem.
+pub mod Theorem
+-- refinement: every call turns the ends as the history's rules turn the history
+pub mod Refinement
 pub mod BoxAlike
 pub mod OfficeAlike
-pub mod Refusals
+pub mod Alike
+-- safety: an invariant of the history along every allowed list
 pub mod Safety
-pub mod Theorem
+pub mod BoxSafe
+pub mod OfficeSafe
+pub mod Invariant
+-- settlement: what the invariant says where the office says settled
+pub mod Settlement
+-- demand 1 at both ends
+pub mod Refusals
 pub mod Tools

@@ -1,26 +1,21 @@
--- Demand 1 at both ends: a call that refuses changes nothing, and writes nothing but the box's REFUSE for 4 to 7.
-use Prim.Native.Nat.{ℕ, _-_, _≤_}
+-- Demand 1 at both ends, proved: refusals keep the state.
+use Prim.Native.Nat.{ℕ, _-_}
 use native.Mathlib.Omega.{arith}
 use mathlib.Core.List.{List}
 use mathlib.Core.Option.{Option, none, some}
 use lib.Dec.{eqb, leb, ltb}
 use Rattle.base.proofs.Tests.{cond-cases}
-use Rattle.frame.specs.Frame.{too-long, Change, Frame, opening, welcome, order, ack, refuse}
+use Rattle.frame.specs.Frame.{Change, Frame, opening, welcome, order, ack, refuse}
 use Rattle.link.specs.Encoding.{decode}
 use Rattle.link.specs.View.{frame-limit}
 use Rattle.session.specs.declared.Cab.{Cab}
 use Rattle.session.specs.declared.Office.{Office}
 use Rattle.session.specs.Box.{opened-again, opened, ordered-here, ordered, received, frame-in}
-use Rattle.session.specs.Calls.{Call, restart, box-frame, open-session, issue, resend, reopen, office-frame, at-cab, at-office, ends-rules}
+use Rattle.session.specs.Calls.{restart, box-frame, open-session, issue, resend, reopen, office-frame, at-cab, at-office}
 use Rattle.session.specs.declared.Ends.{Ends}
 use Rattle.session.specs.Office as office
-use Rattle.session.specs.Turn.{Turn, refused, refused-by}
-
--- a turn from the state a
-pub data Keeps {A : Type 0} (a : A) : Turn A → Type 0 where
-  accepts : {after : A} {frame : Option Frame} → Keeps a (record { state = after; refusal = none; frame = frame })
-  refuses : {number : ℕ} → Keeps a (refused a number)
-  writes-refusal : {session number : ℕ} → 4 ≤ number → number ≤ 7 → Keeps a (refused-by a session number)
+use Rattle.session.specs.Refusals.{Keeps, accepts, refuses, writes-refusal, RefusalsKeep}
+use Rattle.session.specs.Turn.{Turn, refused-by}
 
 -- ---- the box
 
@@ -68,15 +63,9 @@ open-keeps o s room =
     cond-cases (Keeps o) (eqb s 0) _ _ (λ _. refuses)
     (λ _. cond-cases (Keeps o) (ltb room frame-limit) _ _ (λ _. refuses) (λ _. accepts))
 
-issue-keeps : (o : Office) (change : Change) (room : ℕ) → Keeps o (office.issue o change room)
-unfolding office.issue
-issue-keeps o change room =
-    cond-cases (Keeps o) (office.is-live (o .stage)) _ _
-    (λ _. cond-cases (Keeps o) (ltb room frame-limit) _ _ (λ _. refuses)
-    (λ _. cond-cases (Keeps o) (too-long change) _ _ (λ _. refuses)
-    (λ _. cond-cases (Keeps o) (eqb (o .issued .0) 65535) _ _ (λ _. refuses)
-    (λ _. cond-cases (Keeps o) (leb 8 (o .issued .0 - o .confirmed .0)) _ _ (λ _. refuses) (λ _. accepts)))))
-    (λ _. refuses)
+issue-keeps : (o : Office) (change : Change) (refusal : Option ℕ) → Keeps o (office.issue-unless refusal o change)
+issue-keeps o change none = accepts
+issue-keeps o change (some number) = refuses
 
 resend-keeps : (o : Office) (n room : ℕ) → Keeps o (office.resend o n room)
 unfolding office.resend
@@ -114,11 +103,12 @@ at-office-keeps e _ accepts = accepts
 at-office-keeps e _ refuses = refuses
 at-office-keeps e _ (writes-refusal from to) = writes-refusal from to
 
-pub refusals-keep : (e : Ends) (c : Call) → Keeps e (ends-rules e c)
+pub refusals-keep : RefusalsKeep
+unfolding office.issue
 refusals-keep e (restart told) = accepts
 refusals-keep e (box-frame bytes room) = at-cab-keeps e _ (box-keeps (e .cab) bytes room)
 refusals-keep e (open-session s room) = at-office-keeps e _ (open-keeps (e .office) s room)
-refusals-keep e (issue change room) = at-office-keeps e _ (issue-keeps (e .office) change room)
+refusals-keep e (issue change room) = at-office-keeps e _ (issue-keeps (e .office) change (office.issue-refusal (e .office) change room))
 refusals-keep e (resend n room) = at-office-keeps e _ (resend-keeps (e .office) n room)
 refusals-keep e (reopen room) = at-office-keeps e _ (reopen-keeps (e .office) room)
 refusals-keep e (office-frame bytes) = at-office-keeps e _ (office-keeps (e .office) (decode bytes))

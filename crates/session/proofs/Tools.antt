@@ -4,6 +4,7 @@ use native.Mathlib.Omega.{arith}
 use native.Mathlib.Numerals.{add-one}
 use native.Mathlib.Nat.{not-suc-le-zero, le-of-suc-le-suc}
 use mathlib.Core.Path.{_≡_, refl, sym, ap, _∙_, subst, fun-ext}
+use mathlib.Core.Bool.{true, false, false≢true}
 use mathlib.Core.List.{List, [], _∷_, _++_, List·Memᴰ, List·Memᴰ·head, List·Memᴰ·tail}
 use mathlib.Core.Option.{some, Option·some-injective, Option·none-ne-some}
 use lib.ListN.{length, take, getElem?, length-append, length-take}
@@ -13,8 +14,12 @@ use borrow.Author.Tests.{eqb-true, eqb-false, eq-eqb, ne-eqb}
 use Rattle.base.proofs.Tests.{cond-cases}
 use Rattle.frame.specs.Frame.{Frame}
 use Rattle.link.specs.Encoding.{Valid, encode, decode}
-use Rattle.link.proofs.FrameTheorems.{decode-exact, encode-bytes}
+use Rattle.link.proofs.FrameTheorems.{decode-encode}
 use Rattle.session.specs.History.{updated}
+
+-- a test that fails does not hold
+pub impossible : {A : Type 0} → false ≡ true → A
+impossible e = absurd (false≢true e)
 
 -- ---- a function updated at one number
 
@@ -86,9 +91,6 @@ module _ {A : Type 0} where
   prefix-whole l m e h = e ∙ take-all (length l) m h
 
 -- ---- frames and their bytes
-
-pub decode-encode : (f : Frame) → Valid f → decode (encode f) ≡ some f
-decode-encode f valid = decode-exact (encode f) (encode-bytes f valid) f .1 (valid, refl)
 
 -- bytes that decode to a valid frame of which P holds
 pub record Decodes (P : Frame → Type 0) (bytes : List ℕ) : Type 0 where

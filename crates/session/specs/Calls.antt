@@ -3,9 +3,9 @@ use Prim.Native.Nat.{ℕ, _<_, max}
 use mathlib.Core.Path.{_≡_}
 use mathlib.Core.Bool.{cond}
 use mathlib.Core.List.{List, [], _∷_, List·Memᴰ}
-use mathlib.Core.Option.{Option, none, some}
+use mathlib.Core.Option.{Option, none, some, Option·map, Option·getD}
 use lib.ListN.{getD}
-use Rattle.frame.specs.Frame.{Change, command, raise, lower, Frame}
+use Rattle.frame.specs.Frame.{Change, command, raise, lower}
 use Rattle.link.specs.Encoding.{encode}
 use Rattle.session.specs.declared.Cab.{Cab}
 use Rattle.session.specs.declared.Ends.{Ends}
@@ -33,12 +33,8 @@ pub record Answer : Type 0 where
   pub refusal : Option ℕ
   pub bytes : Option (List ℕ)
 
-abbrev pub encoded : Option Frame → Option (List ℕ)
-encoded none = none
-encoded (some f) = some (encode f)
-
 abbrev pub answer-of : {A : Type 0} → Turn A → Answer
-answer-of t = record { refusal = t .refusal; bytes = encoded (t .frame) }
+answer-of t = record { refusal = t .refusal; bytes = Option·map encode (t .frame) }
 
 -- ---- along a list of calls, by rules that turn a state at each call
 
@@ -71,12 +67,13 @@ ends-rules e (resend n room) = at-office e (office.resend (e .office) n room)
 ends-rules e (reopen room) = at-office e (office.reopen (e .office) room)
 ends-rules e (office-frame bytes) = at-office e (office.frame-in (e .office) bytes)
 
+-- the session open at the box
 abbrev pub cab-session : Cab → Option ℕ
 cab-session c = cond (c .active) (some (c .highest .0)) none
 
 -- ---- what a list of calls keeps to
 
--- the frames that each end has written, the sessions that openings named, refused ones aside, and the highest session opened at the box, else 0
+-- of the calls so far: the frames that each end wrote, the sessions that openings named, refused ones aside, and the highest session opened at the box, else 0
 pub record Log : Type 0 where
   pub from-box : List (List ℕ)
   pub from-office : List (List ℕ)
@@ -90,61 +87,52 @@ abbrev pub with-frame : Option (List ℕ) → List (List ℕ) → List (List ℕ
 with-frame none frames = frames
 with-frame (some bytes) frames = bytes ∷ frames
 
-abbrev pub with-name : Option ℕ → ℕ → List ℕ → List ℕ
-with-name none s named = s ∷ named
-with-name (some refusal) s named = named
+abbrev pub named-unless : Option ℕ → ℕ → List ℕ → List ℕ
+named-unless none s named = s ∷ named
+named-unless (some refusal) s named = named
 
-abbrev pub session-or-0 : Option ℕ → ℕ
-session-or-0 none = 0
-session-or-0 (some s) = s
+abbrev pub logged-at-box : Log → Answer → Option ℕ → Log
+logged-at-box l a session =
+    record { from-box = with-frame (a .bytes) (l .from-box); from-office = l .from-office; named = l .named; highest = max (l .highest) (Option·getD session 0) }
 
-abbrev pub logged-box : Log → Answer → Option ℕ → Log
-logged-box l a session =
-    record { from-box = with-frame (a .bytes) (l .from-box); from-office = l .from-office; named = l .named; highest = max (l .highest) (session-or-0 session) }
+abbrev pub logged-at-office : Log → Answer → List ℕ → Log
+logged-at-office l a named = record { from-box = l .from-box; from-office = with-frame (a .bytes) (l .from-office); named = named; highest = l .highest }
 
-abbrev pub logged-office : Log → Answer → List ℕ → Log
-logged-office l a named = record { from-box = l .from-box; from-office = with-frame (a .bytes) (l .from-office); named = named; highest = l .highest }
-
--- a call, its answer, and the session open at the box after it
+-- after a call, its answer and the session then open at the box
 abbrev pub logged : Log → Call → Answer → Option ℕ → Log
-logged l (restart told) a session = logged-box l a session
-logged l (box-frame bytes room) a session = logged-box l a session
-logged l (open-session s room) a session = logged-office l a (with-name (a .refusal) s (l .named))
-logged l (issue c room) a session = logged-office l a (l .named)
-logged l (resend n room) a session = logged-office l a (l .named)
-logged l (reopen room) a session = logged-office l a (l .named)
-logged l (office-frame bytes) a session = logged-office l a (l .named)
+logged l (restart told) a session = logged-at-box l a session
+logged l (box-frame bytes room) a session = logged-at-box l a session
+logged l (open-session s room) a session = logged-at-office l a (named-unless (a .refusal) s (l .named))
+logged l (issue c room) a session = logged-at-office l a (l .named)
+logged l (resend n room) a session = logged-at-office l a (l .named)
+logged l (reopen room) a session = logged-at-office l a (l .named)
+logged l (office-frame bytes) a session = logged-at-office l a (l .named)
 
--- a frame in was written by the other end, an opening names a new session unless it is refused, and a restart is told the highest session opened at the box
-abbrev pub Permitted : Log → Call → Answer → Type 0
-Permitted l (restart told) a = told ≡ l .highest
-Permitted l (box-frame bytes room) a = List·Memᴰ bytes (l .from-office)
-Permitted l (open-session s room) a = a .refusal ≡ none → List·Memᴰ s (l .named) → ⊥
-Permitted l (issue c room) a = Unit {0}
-Permitted l (resend n room) a = Unit {0}
-Permitted l (reopen room) a = Unit {0}
-Permitted l (office-frame bytes) a = List·Memᴰ bytes (l .from-box)
+-- sessions and changes that the code's types hold
+abbrev pub FitsSession : ℕ → Type 0
+FitsSession s = s < 4294967296
 
 abbrev pub FitsChange : Change → Type 0
 FitsChange (command k d) = (k < 256) × ((i : ℕ) → getD d i 0 < 256)
 FitsChange (raise n) = n < 65536
 FitsChange (lower n) = n < 65536
 
--- sessions and changes fit the code's types; nothing is asked of other arguments
-abbrev pub Fits : Call → Type 0
-Fits (restart told) = Unit {0}
-Fits (box-frame bytes room) = Unit {0}
-Fits (open-session s room) = s < 4294967296
-Fits (issue c room) = FitsChange c
-Fits (resend n room) = Unit {0}
-Fits (reopen room) = Unit {0}
-Fits (office-frame bytes) = Unit {0}
+-- A restart is told the highest session opened at the box, a frame in was written by the other end, and an opening names a new session unless it is refused.
+-- Sessions and changes fit the code's types; nothing is asked of other arguments.
+abbrev pub Permitted : Log → Call → Answer → Type 0
+Permitted l (restart told) a = told ≡ l .highest
+Permitted l (box-frame bytes room) a = List·Memᴰ bytes (l .from-office)
+Permitted l (open-session s room) a = FitsSession s × (a .refusal ≡ none → List·Memᴰ s (l .named) → ⊥)
+Permitted l (issue c room) a = FitsChange c
+Permitted l (resend n room) a = Unit {0}
+Permitted l (reopen room) a = Unit {0}
+Permitted l (office-frame bytes) a = List·Memᴰ bytes (l .from-box)
 
 abbrev pub AllowedFrom : Ends → Log → List Call → Type 0
 AllowedFrom e l [] = Unit {0}
 AllowedFrom e l (c ∷ cs) =
     let t = ends-rules e c in
-    Fits c × Permitted l c (answer-of t) × AllowedFrom (t .state) (logged l c (answer-of t) (cab-session (t .state .cab))) cs
+    Permitted l c (answer-of t) × AllowedFrom (t .state) (logged l c (answer-of t) (cab-session (t .state .cab))) cs
 
 abbrev pub Allowed : List Call → Type 0
 Allowed cs = AllowedFrom first-ends first-log cs

@@ -1,6 +1,8 @@
-pub mod Box
-pub mod Calls
+-- Read Claim first, then Calls and History; Box and Office are the rules that the code's contracts cite.
 pub mod Claim
+pub mod Calls
 pub mod History
+pub mod Box
 pub mod Office
 pub mod Turn
+pub mod Refusals

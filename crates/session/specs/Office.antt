@@ -18,7 +18,7 @@ use Rattle.session.specs.declared.Progress.{Progress}
 use Rattle.session.specs.declared.Progress.the-variants.{Settled, Waiting, Over}
 use Rattle.session.specs.declared.Stage.{Stage}
 use Rattle.session.specs.declared.Stage.the-variants.{Unopened, Awaiting, Live, Ended}
-use Rattle.session.specs.Turn.{Turn, wrote, silent, refused}
+use Rattle.session.specs.Turn.{window-limit, order-limit, Turn, wrote, silent, refused}
 
 -- ---- the office's state
 
@@ -29,7 +29,7 @@ abbrev pub no-order : Order
 no-order = order-of 0 (raise 0)
 
 abbrev pub empty-window : List Order
-empty-window = replicate 8 no-order
+empty-window = replicate window-limit no-order
 
 abbrev pub office-of : Stage → ℕ → Settings → ℕ → ℕ → List Order → Office
 office-of stage s σ issued confirmed window =
@@ -61,26 +61,34 @@ open-session o s room =
 
 -- ---- issuing
 
--- order n stands at place (n - 1) mod 8 of the window
+-- order n stands at place (n - 1) mod the window's length
 abbrev pub with-order : Office → Change → Office
 with-order o change =
     office-of Live (o .session .0) (apply (o .settings) change) (o .issued .0 + 1) (o .confirmed .0)
-    (set (o .window) (o .issued .0 % 8) (order-of (o .issued .0 + 1) change))
+    (set (o .window) (o .issued .0 % window-limit) (order-of (o .issued .0 + 1) change))
+
+-- why issuing is refused, if it is: in the order 10, 1, 2, 9, 8
+unfoldable pub issue-refusal : Office → Change → ℕ → Option ℕ
+issue-refusal o change room =
+    cond (is-live (o .stage))
+    (cond (ltb room frame-limit) (some 1)
+    (cond (too-long change) (some 2)
+    (cond (eqb (o .issued .0) order-limit) (some 9)
+    (cond (leb window-limit (o .issued .0 - o .confirmed .0)) (some 8)
+    none))))
+    (some 10)
+
+abbrev pub issue-unless : Option ℕ → Office → Change → Turn Office
+issue-unless (some number) o change = refused o number
+issue-unless none o change = wrote (with-order o change) (order (o .session .0) (o .issued .0 + 1) change)
 
 unfoldable pub issue : Office → Change → ℕ → Turn Office
-issue o change room =
-    cond (is-live (o .stage))
-    (cond (ltb room frame-limit) (refused o 1)
-    (cond (too-long change) (refused o 2)
-    (cond (eqb (o .issued .0) 65535) (refused o 9)
-    (cond (leb 8 (o .issued .0 - o .confirmed .0)) (refused o 8)
-    (wrote (with-order o change) (order (o .session .0) (o .issued .0 + 1) change))))))
-    (refused o 10)
+issue o change room = issue-unless (issue-refusal o change room) o change
 
 -- ---- sending again, each as the same frame
 
 abbrev pub kept-change : List Order → ℕ → Change
-kept-change window n = asked (getD window ((n - 1) % 8) no-order .change)
+kept-change window n = asked (getD window ((n - 1) % window-limit) no-order .change)
 
 -- an unanswered order
 unfoldable pub resend : Office → ℕ → ℕ → Turn Office
@@ -141,7 +149,7 @@ received o (some (refuse s r)) = silent (ended o s r)
 abbrev pub frame-in : Office → List ℕ → Turn Office
 frame-in o bytes = received o (decode bytes)
 
--- ---- the word
+-- ---- the progress: 01's word
 
 abbrev pub progress-at : Stage → Office → Progress
 progress-at Unopened o = Waiting

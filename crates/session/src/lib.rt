@@ -21,6 +21,12 @@ pub enum Stage {
     Ended,
 }
 
+// The most unanswered orders.
+pub const WINDOW_LIMIT: usize = 8;
+
+// The last order's number.
+pub const ORDER_LIMIT: u16 = 65535;
+
 pub struct Order {
     pub number: OrderNumber,
     pub change: Change,
@@ -33,10 +39,10 @@ pub struct Office {
     pub settings: Settings,
     pub issued: OrderNumber,
     pub confirmed: OrderNumber,
-    pub window: [Order; 8],
+    pub window: [Order; WINDOW_LIMIT],
 }
 
-// The office's word on its session. Settled: the box has taken every order issued.
+// How far the office is with its session: document 01's word. Settled: the box has taken every order issued.
 pub enum Progress {
     Settled,
     Waiting,

@@ -1,14 +1,15 @@
 use Prim.Native.Nat.{_≤_}
 use native.Mathlib.Omega.{arith}
 use mathlib.Core.Path.{_≡_, sym, ap, _∙_}
-use lib.ListN.{length, take, length-take}
+use lib.ListN.{length, length-take}
 use lib.Seq.{length-take-le}
 use Rattle.packet.specs.Packet.{packet-limit}
+use Rattle.frame.specs.Frame.{data-limit}
 use Rattle.frame.specs.View.{asked}
-use Rattle.order.specs.declared.change.Packet.{Packet}
-use Rattle.order.specs.Apply.{command-byte, command-data, order-packet}
-use Rattle.order.proofs.Laws.{packet-of-short, built-front}
-use Rattle.order.proofs.Keeps.{data-short}
+use Rattle.packet.specs.declared.builder.Packet.{Packet}
+use Rattle.packet.proofs.Building.{built-front}
+use Rattle.order.specs.Apply.{order-packet}
+use Rattle.cabbox.proofs.Laws.{order-fits}
 use borrow.Author.Needs.{needs}
 use Rattle.cabbox.proofs.obey.obey.Statement.{statement}
 use Rattle.cabbox.proofs.obey.obey.Tie as tie
@@ -23,12 +24,10 @@ array-share-prefix-bytes : tie.Need-array-share-prefix-bytes
 array-share-prefix-bytes c =
     let a = c .before .before .before .args in
     let p = c .before .order-packet in
-    let change = a .change in
-    let body : length (change .body) ≡ 16 = search (needs, c .before .before .before .good .1) in
-    let few : length (take (change .count) (change .body)) ≤ 16 = rw length-take (omega arith) in
+    let body : length (a .change .body) ≡ data-limit = search (needs, c .before .before .before .good .1) in
     let level = c .before .before .settings .result .backlight in
-    let len-is : p .result .len ≡ length (order-packet level (asked change)) = ap (λ (x : Packet). x .len) (p .ensures) in
-    let fits : p .result .len ≤ packet-limit = omega (arith, packet-of-short (command-byte (asked change)) (command-data level (asked change)) (data-short level (change .ask) (take (change .count) (change .body)) few)) in
+    let len-is : p .result .len ≡ length (order-packet level (asked (a .change))) = ap (λ (x : Packet). x .len) (p .ensures) in
+    let fits : p .result .len ≤ packet-limit = omega (arith, order-fits level (a .change) body) in
     let long : length (p .result .bytes) ≡ packet-limit = search (needs, p .ok) in
     omega arith
 
@@ -36,12 +35,10 @@ slice-aggregate-sent : tie.Need-slice-aggregate-sent
 slice-aggregate-sent c =
     let a = c .before .before .before .before .args in
     let p = c .before .before .order-packet in
-    let change = a .change in
-    let body : length (change .body) ≡ 16 = search (needs, c .before .before .before .before .good .1) in
-    let few : length (take (change .count) (change .body)) ≤ 16 = rw length-take (omega arith) in
+    let body : length (a .change .body) ≡ data-limit = search (needs, c .before .before .before .before .good .1) in
     let level = c .before .before .before .settings .result .backlight in
-    let len-is : p .result .len ≡ length (order-packet level (asked change)) = ap (λ (x : Packet). x .len) (p .ensures) in
-    let fits : p .result .len ≤ packet-limit = omega (arith, packet-of-short (command-byte (asked change)) (command-data level (asked change)) (data-short level (change .ask) (take (change .count) (change .body)) few)) in
+    let len-is : p .result .len ≡ length (order-packet level (asked (a .change))) = ap (λ (x : Packet). x .len) (p .ensures) in
+    let fits : p .result .len ≤ packet-limit = omega (arith, order-fits level (a .change) body) in
     let long : length (p .result .bytes) ≡ packet-limit = search (needs, p .ok) in
     sym (length-take-le (p .result .len) (p .result .bytes) (omega arith))
 
@@ -53,7 +50,6 @@ sent-requires c κs =
 
 returns : tie.Need-returns
 returns c =
-    let a = c .before .before .before .before .before .args in
     let p = c .before .before .before .order-packet in
     c .sent .ensures ∙ rw (p .ensures, built-front, c .before .before .before .before .settings .ensures)
 

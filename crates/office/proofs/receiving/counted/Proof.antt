@@ -1,0 +1,16 @@
+use borrow.Author.Needs.{needs}
+use Rattle.base.proofs.Tests.{tests}
+use Rattle.office.proofs.receiving.counted.Statement.{statement}
+use Rattle.office.proofs.receiving.counted.Tie as tie
+
+returns : tie.Need-returns
+returns c = search (needs, tests)
+
+returns-2 : tie.Need-returns-2
+returns-2 c = search (needs, tests)
+
+returns-3 : tie.Need-returns-3
+returns-3 c = search (needs, tests)
+
+pub counted-spec : {M : Type 1} → statement M
+counted-spec = tie.close (tie.spec returns returns-2 returns-3)

@@ -1,0 +1,89 @@
+-- Safety's invariant: what holds of the history and the log along every allowed list of calls.
+use Prim.Native.Nat.{ℕ, _+_, _-_, _<_, _≤_}
+use native.Mathlib.Omega.{arith}
+use mathlib.Core.Path.{_≡_, refl, sym, ap, _∙_}
+use mathlib.Core.Bool.{true}
+use mathlib.Core.List.{List, [], _∷_, _++_, foldl, foldl-append, List·Memᴰ, List·Memᴰ·not-nil}
+use mathlib.Core.Option.{some, Option·getD, Option·none-ne-some}
+use lib.ListN.{length, getElem?}
+use Rattle.settings.specs.declared.settings.Settings.{Settings}
+use Rattle.registers.specs.Block.{Held}
+use Rattle.registers.proofs.BlockTheorems.{fresh-held}
+use Rattle.frame.specs.Frame.{Change, ValidChange, Frame, opening, welcome, order, ack, refuse}
+use Rattle.order.specs.Apply.{apply}
+use Rattle.session.specs.Calls.{Log, first-log, FitsSession}
+use Rattle.session.specs.History.{is-awaiting, is-live, BoxHistory, OfficeHistory, History, first-history, orders}
+use Rattle.session.specs.Turn.{order-limit}
+use Rattle.session.proofs.Tools.{impossible, Prefix, EachDecodes}
+
+-- the settings after a list of changes
+abbrev pub settings-after : Settings → List Change → Settings
+settings-after σ changes = foldl apply σ changes
+
+pub settings-next : (σ τ : Settings) (changes : List Change) (c : Change) → τ ≡ settings-after σ changes →
+    apply τ c ≡ settings-after σ (changes ++ (c ∷ []))
+settings-next σ τ changes c e = ap (λ (υ : Settings). apply υ c) e ∙ sym (foldl-append apply σ changes (c ∷ []))
+
+-- true frames of the office: order n is the n-th change issued in its session
+pub data Request (issued : ℕ → List Change) : Frame → Type 0 where
+  request-opening : {s : ℕ} → Request issued (opening s)
+  request-order : {s n : ℕ} {c : Change} → getElem? (issued s) (n - 1) ≡ some c → Request issued (order s n c)
+
+-- true frames of the box: WELCOME has the settings before the changes of its session, ACK counts no more than were taken
+pub data Reply (b : BoxHistory) : Frame → Type 0 where
+  reply-welcome : {s : ℕ} {σ : Settings} → s ≤ b .highest → (b .session ≡ some s → b .settings ≡ settings-after σ (b .taken s)) →
+      Reply b (welcome s σ)
+  reply-ack : {s k : ℕ} → k ≤ length (b .taken s) → Reply b (ack s k)
+  reply-refuse : {s r : ℕ} → Reply b (refuse s r)
+
+-- the changes of one session
+pub record SessionSafe (s : ℕ) (issued taken : List Change) (named : List ℕ) : Type 0 where
+  pub unnamed : (List·Memᴰ s named → ⊥) → issued ≡ []
+  pub counted : length issued ≤ order-limit
+  pub valid : (i : ℕ) (c : Change) → getElem? issued i ≡ some c → ValidChange c
+  pub prefix : Prefix taken issued
+
+-- no session above the highest was open
+pub record BoxSafe (b : BoxHistory) : Type 0 where
+  pub opened : Option·getD (b .session) 0 ≤ b .highest
+  pub above : (s : ℕ) → b .highest < s → b .taken s ≡ []
+  pub held : Held (b .settings)
+
+-- a session of the office whose settings are those of its WELCOME after the changes issued
+pub record LiveSafe (b : BoxHistory) (session : ℕ) (settings : Settings) (issued : List Change) (named : List ℕ) : Type 0 where
+  pub is-named : List·Memᴰ session named
+  pub welcomed : Settings
+  pub reply : Reply b (welcome session welcomed)
+  pub followed : settings ≡ settings-after welcomed issued
+
+-- `confirmed`: no more than the box took, at every stage
+pub record OfficeSafe (o : OfficeHistory) (b : BoxHistory) (issued : List Change) (named : List ℕ) : Type 0 where
+  pub fits : FitsSession (o .session)
+  pub confirmed : Reply b (ack (o .session) (o .confirmed))
+  pub while-awaiting : is-awaiting (o .stage) ≡ true → List·Memᴰ (o .session) named × (issued ≡ [])
+  pub while-live : is-live (o .stage) ≡ true → LiveSafe b (o .session) (o .settings) issued named
+
+pub record Safe (h : History) (l : Log) : Type 0 where
+  pub sessions : (s : ℕ) → SessionSafe s (h .issued s) (h .box .taken s) (l .named)
+  pub box : BoxSafe (h .box)
+  pub office : OfficeSafe (h .office) (h .box) (orders h) (l .named)
+  pub highest : l .highest ≡ h .box .highest
+  pub requests : EachDecodes (Request (h .issued)) (l .from-office)
+  pub replies : EachDecodes (Reply (h .box)) (l .from-box)
+
+pub taken-first : (h : History) (l : Log) → Safe h l → (s : ℕ) → Prefix (h .box .taken s) (h .issued s)
+taken-first h l safe s = safe .sessions s .prefix
+
+pub none-confirmed : (b : BoxHistory) (s : ℕ) → Reply b (ack s 0)
+none-confirmed b s = reply-ack {s = s} {k = 0} (omega arith)
+
+pub safe-first : Safe first-history first-log
+safe-first =
+    record {
+      sessions = λ _. record { unnamed = λ _. refl; counted = omega arith; valid = λ _ c e. absurd (Option·none-ne-some c e); prefix = refl };
+      box = record { opened = omega arith; above = λ _ _. refl; held = fresh-held };
+      office = record { fits = omega arith; confirmed = none-confirmed _ 0; while-awaiting = impossible; while-live = impossible };
+      highest = refl;
+      requests = λ _ m. absurd (List·Memᴰ·not-nil m);
+      replies = λ _ m. absurd (List·Memᴰ·not-nil m);
+    }

@@ -1,0 +1,57 @@
+-- Refinement: each call turns both ends as the history's rules turn the history, with the same answer.
+use Prim.Native.Nat.{ℕ}
+use mathlib.Core.Path.{_≡_, sym, _∙_, subst}
+use mathlib.Core.List.{List}
+use mathlib.Core.Option.{some, Option·some-injective}
+use Rattle.controller.proofs.Settles.{fresh-ready}
+use Rattle.frame.specs.Frame.{Frame}
+use Rattle.link.specs.Encoding.{Valid, decode}
+use Rattle.session.specs.declared.Cab.{Cab}
+use Rattle.session.specs.declared.Ends.{Ends}
+use Rattle.session.specs.declared.Office.{Office}
+use Rattle.session.specs.Calls.{Call, restart, box-frame, open-session, issue, resend, reopen, office-frame, answer-of, first-ends, at-cab, at-office, ends-rules, Log, Permitted}
+use Rattle.session.specs.History.{BoxHistory, History, first-history, at-box, rules}
+use Rattle.session.specs.Turn.{Turn}
+use Rattle.session.proofs.Alike.{Alike}
+use Rattle.session.proofs.BoxAlike.{CabAlike, closed, restart-alike, box-alike}
+use Rattle.session.proofs.Invariant.{Safe}
+use Rattle.session.proofs.OfficeAlike.{OfficeAlike, first-alike, opening-alike, issue-alike, resend-alike, reopen-alike, frame-alike, same-box, other-box}
+use Rattle.session.proofs.Tools.{Decodes}
+
+pub record EndsAlike (e : Ends) (h : History) : Type 0 where
+  pub cab : CabAlike (e .cab) (h .box)
+  pub office : OfficeAlike (h .box) (e .office) h
+
+pub first-ends-alike : EndsAlike first-ends first-history
+first-ends-alike = record { cab = closed fresh-ready; office = first-alike }
+
+-- what was written by the office is valid
+said-valid : (P : Frame → Type 0) (bytes : List ℕ) → Decodes P bytes → (f : Frame) → decode bytes ≡ some f → Valid f
+said-valid P bytes said f e = subst Valid (Option·some-injective (said .frame) f (sym (said .decoded) ∙ e)) (said .valid)
+
+module _ (e : Ends) (h : History) (a : EndsAlike e h) where
+  box-turn : (t : Turn Cab) (u : Turn BoxHistory) → Alike CabAlike t u → Alike EndsAlike (at-cab e t) (at-box h u)
+  box-turn t u b =
+      record {
+        states = record { cab = b .states; office = other-box (a .office) (u .state) };
+        same-refusal = b .same-refusal;
+        same-frame = b .same-frame;
+      }
+
+  office-turn : (t : Turn Office) (u : Turn History) → Alike (OfficeAlike (h .box)) t u → Alike EndsAlike (at-office e t) u
+  office-turn t u b =
+      let kept = sym (same-box (b .states)) in
+      record {
+        states = record { cab = subst (CabAlike (e .cab)) kept (a .cab); office = subst (λ (box : BoxHistory). OfficeAlike box (t .state) (u .state)) kept (b .states) };
+        same-refusal = b .same-refusal;
+        same-frame = b .same-frame;
+      }
+
+  pub call-alike : (l : Log) → Safe h l → (c : Call) → Permitted l c (answer-of (ends-rules e c)) → Alike EndsAlike (ends-rules e c) (rules h c)
+  call-alike l safe (restart told) _ = box-turn _ _ (restart-alike (h .box) told)
+  call-alike l safe (box-frame bytes room) permitted = box-turn _ _ (box-alike (a .cab) bytes room (said-valid _ bytes (safe .requests bytes permitted)))
+  call-alike l safe (open-session s room) _ = office-turn _ _ (opening-alike (a .office) s room)
+  call-alike l safe (issue c room) _ = office-turn _ _ (issue-alike (a .office) c room)
+  call-alike l safe (resend n room) _ = office-turn _ _ (resend-alike (a .office) n room)
+  call-alike l safe (reopen room) _ = office-turn _ _ (reopen-alike (a .office) room)
+  call-alike l safe (office-frame bytes) _ = office-turn _ _ (frame-alike (a .office) bytes)
