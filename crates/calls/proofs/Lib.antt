@@ -1,0 +1,2 @@
+pub mod EveryCall
+pub mod Laws

@@ -1,0 +1,30 @@
+-- The code's calls as calls of demand 3's list, and what running one gives.
+use Prim.Native.Nat.{ℕ}
+use mathlib.Core.List.{List}
+use Rattle.frame.specs.View.{asked-as, refusal-of}
+use Rattle.frame.specs.declared.verdict.Verdict.{Verdict}
+use Rattle.session.specs.declared.Cab.{Cab}
+use Rattle.session.specs.declared.Ends.{Ends}
+use Rattle.session.specs.declared.Office.{Office}
+use Rattle.session.specs.Calls.{Call, restart, box-frame, open-session, issue, resend, reopen, office-frame}
+use Rattle.session.specs.Turn.{Turn, Realises}
+use Rattle.calls.specs.declared.Answered.{Answered}
+use Rattle.calls.specs.declared.Call.{Call as CodeCall}
+use Rattle.calls.specs.declared.Call.the-variants.{Restart, BoxFrame, OpenSession, Issue, Resend, Reopen, OfficeFrame}
+
+-- with these bytes, and with so many bytes of output lent
+abbrev pub call-of : CodeCall → List ℕ → ℕ → Call
+call-of (Restart session) bytes room = restart (session .0)
+call-of BoxFrame bytes room = box-frame bytes room
+call-of (OpenSession session) bytes room = open-session (session .0) room
+call-of (Issue ask) bytes room = issue (asked-as ask bytes) room
+call-of (Resend number) bytes room = resend (number .0) room
+call-of Reopen bytes room = reopen room
+call-of OfficeFrame bytes room = office-frame bytes
+
+-- the turn fixes what a call returned, and what it made of its lent output: both ends, the refusal's number, the length and every byte
+abbrev pub Runs : Turn Ends → Answered → List ℕ → List ℕ → Type 0
+Runs t r before after = Realises t (r .ends) (refusal-of (r .verdict)) (r .len) before after
+
+abbrev pub answered : Cab → Office → Verdict → ℕ → Answered
+answered cab office verdict len = record { ends = record { cab = cab; office = office }; verdict = verdict; len = len }
