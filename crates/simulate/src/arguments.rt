@@ -1,178 +1,178 @@
-// The arguments of a call. What is wrong with them is printed here.
-use crate::print;
-use crate::world::ROOM_LIMIT;
+// The arguments of a call: numbers, bytes, and how a line ends.
+use crate::asked;
+use crate::asked::Action;
+use crate::asked::Asked;
+use crate::asked::Fault;
+use crate::asked::Lent;
+use crate::buffers::Page;
+use calls::Call;
+use packet::PACKET_LIMIT;
 use text::DecimalRead;
 use text::HexByte;
 
-pub enum Number {
-    Of(u64),
-    Wrong,
-}
-
 // A step, or an order's number.
-pub enum Short {
+pub(crate) enum Short {
     Of(u16),
-    Wrong,
+    Wrong(Fault),
 }
 
 // A session.
-pub enum Long {
+pub(crate) enum Long {
     Of(u32),
-    Wrong,
+    Wrong(Fault),
 }
 
-// An output's length.
-pub enum Room {
+// A length up to a limit.
+pub(crate) enum Length {
     Of(usize),
-    Wrong,
+    Wrong(Fault),
 }
 
-// More bytes than a line can hold.
-pub const BYTES_LIMIT: usize = 2048;
-
-// The bytes that a line gives: the first len.
-pub struct Given {
-    pub valid: bool,
-    pub bytes: [u8; BYTES_LIMIT],
+// How many bytes were read, and where the first word stands that is none.
+pub(crate) struct Given {
     pub len: usize,
+    pub end: usize,
 }
 
-// Whether no words are left.
-pub fn none_left(line: u64, s: &[u8]) -> bool {
-    if s.len() == 0 {
-        return true;
-    }
-    print::wrong(line, b"too many words");
-    false
+enum Ending {
+    Of(Lent),
+    Wrong(Fault),
 }
 
-fn out_of_range(line: u64) {
-    print::wrong(line, b"number out of range");
-}
-
-fn any_number(line: u64, word: &[u8]) -> Number {
+// The number of at most 16 bits that a word writes.
+pub(crate) fn short_of(word: &[u8]) -> Short {
     match text::decimal(word) {
-        DecimalRead::Of(n) => Number::Of(n),
-        DecimalRead::NotDigits => {
-            print::wrong(line, b"not a number");
-            Number::Wrong
+        DecimalRead::Of(n) => {
+            if 65535 < n {
+                return Short::Wrong(Fault::OutOfRange);
+            }
+            Short::Of(n as u16)
         }
-        DecimalRead::TooLarge => {
-            out_of_range(line);
-            Number::Wrong
-        }
+        DecimalRead::NotDigits => Short::Wrong(Fault::NotANumber),
+        DecimalRead::TooLarge => Short::Wrong(Fault::OutOfRange),
     }
-}
-
-// The number of at most 16 bits that is all of a call's arguments.
-pub fn only_short(line: u64, s: &[u8]) -> Short {
-    let Number::Of(n) = any_number(line, text::word(s)) else {
-        return Short::Wrong;
-    };
-    if 65535 < n {
-        out_of_range(line);
-        return Short::Wrong;
-    }
-    if none_left(line, text::after_word(s)) {
-        return Short::Of(n as u16);
-    }
-    Short::Wrong
 }
 
 // The same, of at most 32 bits.
-pub fn only_long(line: u64, s: &[u8]) -> Long {
-    let Number::Of(n) = any_number(line, text::word(s)) else {
-        return Long::Wrong;
-    };
-    if 4294967295 < n {
-        out_of_range(line);
-        return Long::Wrong;
-    }
-    if none_left(line, text::after_word(s)) {
-        return Long::Of(n as u32);
-    }
-    Long::Wrong
-}
-
-// The same, of an output's length.
-pub fn only_room(line: u64, s: &[u8]) -> Room {
-    let Number::Of(n) = any_number(line, text::word(s)) else {
-        return Room::Wrong;
-    };
-    if ROOM_LIMIT < n as usize {
-        out_of_range(line);
-        return Room::Wrong;
-    }
-    if none_left(line, text::after_word(s)) {
-        return Room::Of(n as usize);
-    }
-    Room::Wrong
-}
-
-// The number of a frame: any is one, but there are not so many frames.
-pub fn frame_number(line: u64, s: &[u8]) -> Number {
-    match text::decimal(text::word(s)) {
-        DecimalRead::Of(n) => Number::Of(n),
-        DecimalRead::NotDigits => {
-            print::wrong(line, b"not a number");
-            Number::Wrong
-        }
-        DecimalRead::TooLarge => {
-            print::wrong(line, b"no such frame");
-            Number::Wrong
-        }
-    }
-}
-
-fn no_bytes(valid: bool) -> Given {
-    Given {
-        valid,
-        bytes: [0; BYTES_LIMIT],
-        len: 0,
-    }
-}
-
-fn with_byte(given: Given, word: &[u8]) -> Given {
-    let HexByte::Of(b) = text::hex_byte(word) else {
-        return no_bytes(false);
-    };
-    let len = given.len;
-    if BYTES_LIMIT <= len {
-        return no_bytes(false);
-    }
-    let mut bytes = given.bytes;
-    bytes[len] = b;
-    Given {
-        valid: true,
-        bytes,
-        len: len + 1,
-    }
-}
-
-fn read_bytes(s: &[u8]) -> Given {
-    let mut given = no_bytes(true);
-    let mut at: usize = 0;
-    while at < s.len() {
-        let end = text::find(s, at, b' ');
-        if at < end {
-            given = with_byte(given, text::part(s, at, end));
-            if !given.valid {
-                return given;
+pub(crate) fn long_of(word: &[u8]) -> Long {
+    match text::decimal(word) {
+        DecimalRead::Of(n) => {
+            if 4294967295 < n {
+                return Long::Wrong(Fault::OutOfRange);
             }
+            Long::Of(n as u32)
         }
-        if s.len() <= end {
-            return given;
-        }
-        at = end + 1;
+        DecimalRead::NotDigits => Long::Wrong(Fault::NotANumber),
+        DecimalRead::TooLarge => Long::Wrong(Fault::OutOfRange),
     }
-    given
 }
 
-// The bytes that are all of a call's arguments from here on.
-pub fn bytes(line: u64, s: &[u8]) -> Given {
-    let given = read_bytes(s);
-    if !given.valid {
-        print::wrong(line, b"not bytes");
+// The same, of a length.
+pub(crate) fn length_of(word: &[u8], limit: usize) -> Length {
+    match text::decimal(word) {
+        DecimalRead::Of(n) => {
+            if limit < n as usize {
+                return Length::Wrong(Fault::OutOfRange);
+            }
+            Length::Of(n as usize)
+        }
+        DecimalRead::NotDigits => Length::Wrong(Fault::NotANumber),
+        DecimalRead::TooLarge => Length::Wrong(Fault::OutOfRange),
     }
-    given
+}
+
+// A line that ends where its arguments do.
+pub(crate) fn ended(action: Action, s: &[u8]) -> Asked {
+    if s.len() == 0 {
+        return asked::plain(action);
+    }
+    asked::wrong(Fault::TooManyWords)
+}
+
+// into N
+fn into(s: &[u8]) -> Ending {
+    match length_of(text::word(s), PACKET_LIMIT) {
+        Length::Of(n) => {
+            if text::after_word(s).len() == 0 {
+                return Ending::Of(Lent::Into(n));
+            }
+            Ending::Wrong(Fault::TooManyWords)
+        }
+        Length::Wrong(fault) => Ending::Wrong(fault),
+    }
+}
+
+fn lent_by(s: &[u8], otherwise: Fault) -> Ending {
+    if s.len() == 0 {
+        return Ending::Of(Lent::Room);
+    }
+    if check::same(text::word(s), b"into") {
+        return into(text::after_word(s));
+    }
+    Ending::Wrong(otherwise)
+}
+
+// An action with len bytes given, on a line that may end in `into N`; what else stands there is wrong.
+pub(crate) fn lent(action: Action, len: usize, s: &[u8], otherwise: Fault) -> Asked {
+    match lent_by(s, otherwise) {
+        Ending::Of(lent) => Asked { action, len, lent },
+        Ending::Wrong(fault) => asked::wrong(fault),
+    }
+}
+
+// A call at box or office whose arguments are read.
+pub(crate) fn call(call: Call, s: &[u8]) -> Asked {
+    lent(Action::Call(call), 0, s, Fault::TooManyWords)
+}
+
+// One byte more, where the next word is one and finds room.
+fn with_next(s: &[u8], given: &mut Page, read: Given) -> Given {
+    let at = read.end;
+    let end = text::find(s, at, b' ');
+    let HexByte::Of(b) = text::hex_byte(text::part(s, at, end)) else {
+        return read;
+    };
+    let len = read.len;
+    if given.len() <= len {
+        return read;
+    }
+    given[len] = b;
+    let rest = text::skip_spaces(number::rest(s, end));
+    Given {
+        len: len + 1,
+        end: std::num::wrapping_sub_usize(s.len(), rest.len()),
+    }
+}
+
+// The bytes at the front of s.
+pub(crate) fn bytes(s: &[u8], given: &mut Page) -> Given {
+    let mut read = Given { len: 0, end: 0 };
+    while read.end < s.len() {
+        let next = with_next(s, &mut *given, read);
+        if next.end <= read.end {
+            return read;
+        }
+        read = next;
+    }
+    read
+}
+
+// An action whose arguments are bytes.
+pub(crate) fn with_bytes(action: Action, s: &[u8], given: &mut Page) -> Asked {
+    let read = bytes(s, &mut *given);
+    if read.end < s.len() {
+        return asked::wrong(Fault::NotBytes);
+    }
+    Asked {
+        action,
+        len: read.len,
+        lent: Lent::Room,
+    }
+}
+
+// The same, on a line that may end in `into N`.
+pub(crate) fn lent_with_bytes(action: Action, s: &[u8], given: &mut Page) -> Asked {
+    let read = bytes(s, &mut *given);
+    let end = read.end;
+    lent(action, read.len, number::rest(s, end), Fault::NotBytes)
 }

@@ -1,32 +1,30 @@
 // The controller on the bench.
-use crate::arguments;
-use crate::arguments::BYTES_LIMIT;
-use crate::arguments::Given;
+use crate::asked::Heard;
+use crate::buffers::Output;
+use crate::buffers::Page;
+use crate::packets;
 use crate::print;
 use crate::world::World;
-use controller::Controller;
 use controller::exchange_all;
 
-// bus BYTES
-pub fn bus(world: World, line: u64, s: &[u8]) -> World {
-    let given = arguments::bytes(line, s);
-    if !given.valid {
-        return world;
-    }
-    let controller = world.bench;
-    let after = exchange_given(controller, given);
+// bus BYTES, exchange write BYTES, exchange read BYTES
+pub(crate) fn bus(world: World, heard: Heard, bytes: &[u8], out: &mut Output) -> World {
+    let mut sent = io::buffer();
+    let after = exchange_all(world.bench, bytes, &mut sent);
+    let at = told(&mut *out, world.notes.gathered, heard, &sent, bytes.len());
     let mut next = world;
     next.bench = after;
+    next.notes.gathered = at;
     next
 }
 
-fn exchange_given(controller: Controller, given: Given) -> Controller {
-    let bytes = given.bytes;
-    let len = given.len;
-    let mut out = [0; BYTES_LIMIT];
-    let after = exchange_all(controller, text::part(&bytes, 0, len), &mut out);
-    print::all(b"bus");
-    print::bytes(text::part(&out, 0, len));
-    print::end_line();
-    after
+fn told(out: &mut Output, at: usize, heard: Heard, sent: &Page, len: usize) -> usize {
+    let bytes = text::part(sent, 0, len);
+    match heard {
+        Heard::All => print::named_bytes(&mut *out, at, b"bus", bytes),
+        Heard::Reply(access) => {
+            let said = packets::response(&mut *out, at, access, bytes);
+            print::end_line(&mut *out, said)
+        }
+    }
 }

@@ -1,168 +1,190 @@
 // Plays a script from standard input: a line is a call at the cab box, at the office or at a controller on the bench, or
-// a frame carried from one end to the other. It prints what each call answered.
+// a frame carried from one end to the other. It prints what each call answered, and whether that is what the line expects.
 mod arguments;
+mod asked;
 mod bench;
-mod box_end;
-mod calls;
+mod buffers;
+mod carried;
+mod describe;
+mod encoding;
+mod ends;
 mod frames;
-mod office_end;
+mod held;
+mod lending;
+mod lines;
 mod packets;
+mod perform;
 mod print;
+mod registers_named;
 mod show;
+mod whole;
 mod world;
 
+use buffers::Output;
+use buffers::Page;
+use buffers::Slots;
 use libc::STDIN_FILENO;
+use world::Script;
 use world::World;
 ghost use mathlib.Core.Path.{_≡_};
-ghost use Prim.Native.Nat.{_+_, _<_};
-ghost use lib.ListN.{length};
+ghost use Prim.Native.Nat.{_≤_, _-_};
 
 // A script's longest line.
 const LINE_LIMIT: usize = 4096;
 
-// The line that is being read: so much of it stands in the buffer, unless it is too long.
-struct Line {
-    number: u64,
-    len: usize,
-    too_long: bool,
-}
-
-struct Played {
-    world: World,
-    line: Line,
-}
-
 // More of the line that is being read.
-fn longer(line: Line, more: &[u8], buffer: &mut [u8]) -> Line {
-    let len = line.len;
+fn longer(script: Script, more: &[u8], line: &mut Page) -> Script {
+    let mut next = script;
+    let len = script.len;
     if LINE_LIMIT < len {
-        return line;
+        return script;
     }
     if LINE_LIMIT - len < more.len() {
-        return Line {
-            number: line.number,
-            len,
-            too_long: true,
-        };
+        next.too_long = true;
+        return next;
     }
-    base::store(more, &mut *buffer, len);
-    Line {
-        number: line.number,
-        len: len + more.len(),
-        too_long: line.too_long,
-    }
+    base::store(more, &mut *line, len);
+    let longer = len + more.len();
+    next.len = longer;
+    next
 }
 
-// The line is whole: its call is made, and the next line begins.
-fn ended(played: Played, buffer: &[u8], from_box: &mut [u8], from_office: &mut [u8]) -> Played {
-    let line = played.line;
-    let world = played.world;
-    let number = std::num::wrapping_add_u64(line.number, 1);
-    let next = Line {
-        number,
-        len: 0,
-        too_long: false,
-    };
-    if line.too_long {
-        print::wrong(number, b"line too long");
-        return Played { world, line: next };
+// A part of what was read, up to the end of a line or of what was read.
+fn piece(
+    world: World,
+    bytes: &[u8],
+    at: usize,
+    end: usize,
+    line: &mut Page,
+    given: &mut Page,
+    buffer: &mut Page,
+    slots: &mut Slots,
+    out: &mut Output,
+) -> World {
+    let script = longer(world.script, text::part(bytes, at, end), &mut *line);
+    if bytes.len() <= end {
+        let mut next = world;
+        next.script = script;
+        return next;
     }
-    let len = line.len;
-    let after = calls::run(
+    whole::ended(
         world,
-        number,
-        text::part(buffer, 0, len),
-        &mut *from_box,
-        &mut *from_office,
-    );
-    Played {
-        world: after,
-        line: next,
-    }
-}
-
-fn more(played: Played, bytes: &[u8], buffer: &mut [u8]) -> Played {
-    let world = played.world;
-    Played {
-        world,
-        line: longer(played.line, bytes, &mut *buffer),
-    }
-}
-
-fn behind(bytes: &[u8], newline: usize) -> usize
-    requires { ⌜ newline < length (now bytes) ⌝ }
-    ensures { λ r. ⌜ r ≡ newline + 1 ⌝ }
-{
-    newline + 1
+        script,
+        line,
+        &mut *given,
+        &mut *buffer,
+        &mut *slots,
+        &mut *out,
+    )
 }
 
 // The bytes of one read.
 fn read(
-    start: Played,
+    start: World,
     bytes: &[u8],
-    buffer: &mut [u8],
-    from_box: &mut [u8],
-    from_office: &mut [u8],
-) -> Played {
-    let mut played = start;
+    line: &mut Page,
+    given: &mut Page,
+    buffer: &mut Page,
+    slots: &mut Slots,
+    out: &mut Output,
+) -> World {
+    let mut world = start;
     let mut at: usize = 0;
     while at < bytes.len() {
         let end = text::find(bytes, at, b'\n');
-        played = more(played, text::part(bytes, at, end), &mut *buffer);
-        if bytes.len() <= end {
-            return played;
-        }
-        played = ended(played, buffer, &mut *from_box, &mut *from_office);
-        at = behind(bytes, end);
-    }
-    played
-}
-
-// A last line may have no newline behind it.
-fn finish(played: Played, buffer: &[u8], from_box: &mut [u8], from_office: &mut [u8]) {
-    let line = played.line;
-    if line.too_long {
-        ended(played, buffer, &mut *from_box, &mut *from_office);
-        return;
-    }
-    if line.len != 0 {
-        ended(played, buffer, &mut *from_box, &mut *from_office);
-    }
-}
-
-// A proved loop has to end, and an input need not. So it counts its turns down, from a number that no run uses up.
-fn play(buffer: &mut [u8], from_box: &mut [u8], from_office: &mut [u8]) {
-    let mut played = Played {
-        world: World::first(),
-        line: Line {
-            number: 0,
-            len: 0,
-            too_long: false,
-        },
-    };
-    let mut turns = u64::MAX;
-    while 0 < turns {
-        let mut input = io::buffer();
-        let got = libc::read(STDIN_FILENO, &mut input);
-        if got <= 0 {
-            finish(played, buffer, &mut *from_box, &mut *from_office);
-            return;
-        }
-        let n = io::count(got, &input);
-        played = read(
-            played,
-            &input[..n],
+        world = piece(
+            world,
+            bytes,
+            at,
+            end,
+            &mut *line,
+            &mut *given,
             &mut *buffer,
-            &mut *from_box,
-            &mut *from_office,
+            &mut *slots,
+            &mut *out,
         );
-        turns -= 1;
+        let next = std::num::wrapping_add_usize(end, 1);
+        // never so: the test shows that the loop ends
+        if next <= at {
+            return world;
+        }
+        at = next;
+    }
+    world
+}
+
+// One read. What it prints is written before the next one, so that whoever types sees each answer at once.
+fn turn(
+    world: World,
+    line: &mut Page,
+    given: &mut Page,
+    buffer: &mut Page,
+    slots: &mut Slots,
+    out: &mut Output,
+) -> World
+    ensures { λ r. ⌜ r .script .turns ≤ world .script .turns - 1 ⌝ }
+{
+    let turns = world.script.turns;
+    let mut input = io::large_buffer();
+    let got = libc::read(STDIN_FILENO, &mut input);
+    let n = io::count(got, &input);
+    if n == 0 {
+        whole::finish(
+            world,
+            line,
+            &mut *given,
+            &mut *buffer,
+            &mut *slots,
+            &mut *out,
+        );
+        return counted(world, 0);
+    }
+    let next = read(
+        world,
+        &input[..n],
+        &mut *line,
+        &mut *given,
+        &mut *buffer,
+        &mut *slots,
+        &mut *out,
+    );
+    let written = print::flush(out, next.notes.gathered);
+    counted(world::with_gathered(next, written), turns)
+}
+
+// One turn less than before.
+fn counted(world: World, before: u64) -> World
+    ensures { λ r. ⌜ r .script .turns ≡ before - 1 ⌝ }
+{
+    let mut next = world;
+    if before == 0 {
+        next.script.turns = 0;
+        return next;
+    }
+    let left = before - 1;
+    next.script.turns = left;
+    next
+}
+
+fn play(line: &mut Page, given: &mut Page, buffer: &mut Page, slots: &mut Slots, out: &mut Output) {
+    let mut world = world::first();
+    while 0 < world.script.turns {
+        world = turn(
+            world,
+            &mut *line,
+            &mut *given,
+            &mut *buffer,
+            &mut *slots,
+            &mut *out,
+        );
     }
 }
 
 fn main() {
+    let mut line = io::buffer();
+    let mut given = io::buffer();
     let mut buffer = io::buffer();
-    let mut from_box = frames::none_kept();
-    let mut from_office = frames::none_kept();
-    play(&mut buffer, &mut from_box, &mut from_office);
+    let mut slots = frames::none_kept();
+    let mut out = io::large_buffer();
+    play(&mut line, &mut given, &mut buffer, &mut slots, &mut out);
 }

@@ -1,95 +1,104 @@
 // The packet writer and the reply reader.
-use crate::arguments;
-use crate::arguments::Given;
+use crate::asked::Lent;
+use crate::buffers::Output;
+use crate::buffers::Page;
+use crate::lending;
 use crate::print;
 use packet::Access;
 use packet::PACKET_LIMIT;
 use packet::Reply;
 use packet::ReplyRead;
 use packet::Written;
-use text::HexByte;
-
-enum Way {
-    Of(Access),
-    Unknown,
-}
-
-fn way_of(word: &[u8]) -> Way {
-    if check::same(word, b"write") {
-        return Way::Of(Access::Write);
-    }
-    if check::same(word, b"read") {
-        return Way::Of(Access::Read);
-    }
-    Way::Unknown
-}
 
 // packet write ID BYTES, packet read ID BYTES
-pub fn packet(line: u64, s: &[u8]) {
-    let Way::Of(access) = way_of(text::word(s)) else {
-        print::wrong(line, b"not a call");
-        return;
-    };
-    let rest = text::after_word(s);
-    let HexByte::Of(id) = text::hex_byte(text::word(rest)) else {
-        print::wrong(line, b"not bytes");
-        return;
-    };
-    let given = arguments::bytes(line, text::after_word(rest));
-    if given.valid {
-        write_given(id, access, given);
+pub(crate) fn packet(
+    out: &mut Output,
+    at: usize,
+    id: u8,
+    access: Access,
+    lent: Lent,
+    bytes: &[u8],
+    buffer: &mut Page,
+) -> usize {
+    let n = lending::length(lent, PACKET_LIMIT);
+    match written(id, access, lent, bytes, n, &mut *buffer) {
+        Written::Length(len) => {
+            let said = told(&mut *out, at, lent, text::part(buffer, 0, len));
+            lending::told(&mut *out, said, lent, text::part(buffer, len, n))
+        }
+        Written::Refused(r) => {
+            let said = print::refused(&mut *out, at, r.number());
+            lending::told(&mut *out, said, lent, text::part(buffer, 0, n))
+        }
     }
 }
 
-fn write_given(id: u8, access: Access, given: Given) {
-    let bytes = given.bytes;
-    let len = given.len;
-    let mut out = [0; PACKET_LIMIT];
-    let written = packet::write(id, access, text::part(&bytes, 0, len), &mut out);
-    match written {
-        Written::Length(n) => {
-            print::all(b"packet");
-            print::bytes(text::part(&out, 0, n));
-        }
-        Written::Refused(r) => print::refused(r.number()),
+fn written(
+    id: u8,
+    access: Access,
+    lent: Lent,
+    bytes: &[u8],
+    n: usize,
+    buffer: &mut Page,
+) -> Written {
+    lending::prepare(lent, &mut *buffer);
+    written_lent(id, access, bytes, n, buffer)
+}
+
+// A packet written to n bytes of a page.
+fn written_lent(id: u8, access: Access, bytes: &[u8], n: usize, page: &mut [u8]) -> Written {
+    if page.len() < n {
+        return packet::write(id, access, bytes, &mut *page);
     }
-    print::end_line();
+    packet::write(id, access, bytes, &mut page[0..n])
+}
+
+// A packet, or behind `into N` its length.
+fn told(out: &mut Output, at: usize, lent: Lent, packet: &[u8]) -> usize {
+    match lent {
+        Lent::Room => {
+            let said = print::all(&mut *out, at, b"packet");
+            print::bytes(&mut *out, said, packet)
+        }
+        Lent::Into(_) => {
+            let n = [packet.len() as u64];
+            print::with(&mut *out, at, b"packet of _ bytes", &n)
+        }
+    }
 }
 
 // reply write BYTES, reply read BYTES
-pub fn reply(line: u64, s: &[u8]) {
-    let Way::Of(access) = way_of(text::word(s)) else {
-        print::wrong(line, b"not a call");
-        return;
-    };
-    let given = arguments::bytes(line, text::after_word(s));
-    if given.valid {
-        read_given(access, given);
-    }
-}
-
-fn read_given(access: Access, given: Given) {
-    let bytes = given.bytes;
-    let len = given.len;
-    let s = text::part(&bytes, 0, len);
+pub(crate) fn reply(out: &mut Output, at: usize, access: Access, s: &[u8]) -> usize {
     match packet::read_reply(access, s) {
-        ReplyRead::Whole(r) => told(r, s),
-        ReplyRead::Refused(r) => print::refused(r.number()),
+        ReplyRead::Whole(r) => {
+            let said = print::all(&mut *out, at, b"reply");
+            let told = found(&mut *out, said, r, s);
+            let end = [r.end as u64];
+            print::with(&mut *out, told, b" end _", &end)
+        }
+        ReplyRead::Refused(r) => print::refused(&mut *out, at, r.number()),
     }
-    print::end_line();
 }
 
-fn told(r: Reply, s: &[u8]) {
+// The reply among the bytes that a controller sent.
+pub(crate) fn response(out: &mut Output, at: usize, access: Access, s: &[u8]) -> usize {
+    match packet::read_reply(access, s) {
+        ReplyRead::Whole(r) => {
+            let said = print::all(&mut *out, at, b"response");
+            found(&mut *out, said, r, s)
+        }
+        ReplyRead::Refused(r) => print::refused(&mut *out, at, r.number()),
+    }
+}
+
+fn found(out: &mut Output, at: usize, r: Reply, s: &[u8]) -> usize {
     let start = r.start;
     let count = r.count;
-    print::all(b"reply");
-    print::byte(r.response);
-    print::all(b" data");
-    if count <= s.len() {
-        if start <= s.len() - count {
-            print::bytes(text::part(s, start, start + count));
-        }
-    }
-    print::all(b" end ");
-    print::decimal(r.end as u64);
+    let said = print::byte(&mut *out, at, r.response);
+    let told = print::all(&mut *out, said, b" data");
+    print::bytes(
+        &mut *out,
+        told,
+        text::part(number::rest(s, start), 0, count),
+    )
 }

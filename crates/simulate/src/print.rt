@@ -1,17 +1,78 @@
-// What is printed.
+// What is printed: it is gathered in a lent buffer, from `at` on, and each call answers the place behind what it put there.
+use crate::asked::Fault;
+use crate::buffers::Output;
 use frame::Verdict;
 use libc::STDOUT_FILENO;
 
-pub fn all(s: &[u8]) {
-    io::write_all(STDOUT_FILENO, s);
+// Writes what is gathered.
+pub(crate) fn flush(out: &Output, at: usize) -> usize {
+    io::write_all(STDOUT_FILENO, text::part(out, 0, at));
+    0
 }
 
-pub fn decimal(n: u64) {
-    io::print_decimal(STDOUT_FILENO, n);
+// A place with room for len bytes.
+pub(crate) fn with_room(out: &Output, at: usize, len: usize) -> usize {
+    if at <= out.len() {
+        if len <= out.len() - at {
+            return at;
+        }
+    }
+    flush(out, at)
 }
 
-pub fn end_line() {
-    all(b"\n");
+pub(crate) fn all(out: &mut Output, at: usize, s: &[u8]) -> usize {
+    let start = with_room(out, at, s.len());
+    base::store(s, &mut *out, start);
+    std::num::wrapping_add_usize(start, s.len())
+}
+
+pub(crate) fn decimal(out: &mut Output, at: usize, n: u64) -> usize {
+    let mut digits = [0u8; 20];
+    let count = io::decimal(n, &mut digits);
+    all(&mut *out, at, &digits[..count])
+}
+
+fn number_at(numbers: &[u64], i: usize) -> u64 {
+    if i < numbers.len() {
+        return numbers[i];
+    }
+    0
+}
+
+// The place behind what is printed, and the number that comes next.
+struct Place {
+    at: usize,
+    next: usize,
+}
+
+fn with_byte(out: &mut Output, place: Place, byte: u8, numbers: &[u64]) -> Place {
+    let next = place.next;
+    if byte == b'_' {
+        return Place {
+            at: decimal(&mut *out, place.at, number_at(numbers, next)),
+            next: std::num::wrapping_add_usize(next, 1),
+        };
+    }
+    let one = [byte];
+    Place {
+        at: all(&mut *out, place.at, &one),
+        next,
+    }
+}
+
+// Words, with a number in the place of each underscore.
+pub(crate) fn with(out: &mut Output, start: usize, words: &[u8], numbers: &[u64]) -> usize {
+    let mut place = Place { at: start, next: 0 };
+    let mut i: usize = 0;
+    while i < words.len() {
+        place = with_byte(&mut *out, place, words[i], numbers);
+        i += 1;
+    }
+    place.at
+}
+
+pub(crate) fn end_line(out: &mut Output, at: usize) -> usize {
+    all(&mut *out, at, b"\n")
 }
 
 fn digit(n: u8) -> u8 {
@@ -22,44 +83,77 @@ fn digit(n: u8) -> u8 {
     b'A' + (d - 10)
 }
 
-// A space and the byte.
-pub fn byte(b: u8) {
-    let s = [b' ', digit(b / 16), digit(b % 16)];
-    all(&s);
+pub(crate) fn byte_alone(out: &mut Output, at: usize, b: u8) -> usize {
+    let s = [digit(b / 16), digit(b % 16)];
+    all(&mut *out, at, &s)
 }
 
-pub fn bytes(s: &[u8]) {
+// A space and the byte.
+pub(crate) fn byte(out: &mut Output, at: usize, b: u8) -> usize {
+    let s = [b' ', digit(b / 16), digit(b % 16)];
+    all(&mut *out, at, &s)
+}
+
+pub(crate) fn bytes(out: &mut Output, start: usize, s: &[u8]) -> usize {
+    let mut at = start;
     let mut i: usize = 0;
     while i < s.len() {
-        byte(s[i]);
+        at = byte(&mut *out, at, s[i]);
         i += 1;
     }
+    at
 }
 
-pub fn refused(number: u8) {
-    all(b"refused ");
-    decimal(number as u64);
+// A line of a word and bytes.
+pub(crate) fn named_bytes(out: &mut Output, at: usize, word: &[u8], s: &[u8]) -> usize {
+    let said = all(&mut *out, at, word);
+    let told = bytes(&mut *out, said, s);
+    end_line(&mut *out, told)
+}
+
+pub(crate) fn refused(out: &mut Output, at: usize, number: u8) -> usize {
+    let n = [number as u64];
+    with(&mut *out, at, b"refused _", &n)
+}
+
+fn verdict(out: &mut Output, at: usize, verdict: Verdict) -> usize {
+    match verdict {
+        Verdict::Accepted => all(&mut *out, at, b"ok"),
+        Verdict::Refused(r) => refused(&mut *out, at, r.number()),
+    }
 }
 
 // What a call answered, and the frame that it wrote.
-pub fn answer(verdict: Verdict, frame: &[u8]) {
-    match verdict {
-        Verdict::Accepted => all(b"ok"),
-        Verdict::Refused(r) => refused(r.number()),
-    }
-    bytes(frame);
-    end_line();
+pub(crate) fn answer(out: &mut Output, at: usize, said: Verdict, frame: &[u8]) -> usize {
+    let behind = verdict(&mut *out, at, said);
+    bytes(&mut *out, behind, frame)
 }
 
-pub fn ok() {
-    all(b"ok\n");
+pub(crate) fn ok(out: &mut Output, at: usize) -> usize {
+    all(&mut *out, at, b"ok\n")
+}
+
+// What an answer should have been.
+pub(crate) fn expected(out: &mut Output, at: usize, line: u64, s: &[u8]) -> usize {
+    let n = [line];
+    let behind = with(&mut *out, at, b"line _: expected ", &n);
+    let told = all(&mut *out, behind, s);
+    end_line(&mut *out, told)
 }
 
 // What is wrong with a line.
-pub fn wrong(line: u64, what: &[u8]) {
-    all(b"line ");
-    decimal(line);
-    all(b": ");
-    all(what);
-    end_line();
+pub(crate) fn wrong(out: &mut Output, at: usize, line: u64, fault: Fault) -> usize {
+    let n = [line];
+    let behind = with(&mut *out, at, b"line _: ", &n);
+    match fault {
+        Fault::TooLong => all(&mut *out, behind, b"line too long\n"),
+        Fault::NotACall => all(&mut *out, behind, b"not a call\n"),
+        Fault::NotANumber => all(&mut *out, behind, b"not a number\n"),
+        Fault::OutOfRange => all(&mut *out, behind, b"number out of range\n"),
+        Fault::NotBytes => all(&mut *out, behind, b"not bytes\n"),
+        Fault::NoSuchFrame => all(&mut *out, behind, b"no such frame\n"),
+        Fault::NotAFrame => all(&mut *out, behind, b"not a frame\n"),
+        Fault::NoSuchRegister => all(&mut *out, behind, b"no such register\n"),
+        Fault::TooManyWords => all(&mut *out, behind, b"too many words\n"),
+    }
 }

@@ -1,80 +1,75 @@
-// What each end holds.
-use crate::arguments;
+// What each end holds, in bytes.
+use crate::buffers::Output;
 use crate::print;
-use crate::world::World;
 use session::Cab;
+use session::Ends;
 use session::Office;
 use session::Progress;
 use session::Stage;
 use settings::Settings;
 
 // show
-pub fn show(world: World, line: u64, s: &[u8]) {
-    if !arguments::none_left(line, s) {
-        return;
-    }
-    show_box(world.cab);
-    show_office(world.office);
+pub(crate) fn show(out: &mut Output, at: usize, ends: Ends) -> usize {
+    let next = show_box(&mut *out, at, ends.cab);
+    show_office(&mut *out, next, ends.office)
 }
 
-fn show_settings(settings: Settings) {
-    print::all(b" settings");
-    let block = registers::block(settings);
-    print::bytes(&block);
+fn settings(out: &mut Output, at: usize, held: Settings) -> usize {
+    let said = print::all(&mut *out, at, b" settings");
+    let block = registers::block(held);
+    let told = print::bytes(&mut *out, said, &block);
+    print::end_line(&mut *out, told)
 }
 
-fn show_box(cab: Cab) {
-    print::all(b"box session ");
-    if cab.active {
-        print::decimal(cab.highest.0 as u64);
-    } else {
-        print::all(b"none");
-    }
-    print::all(b" highest ");
-    print::decimal(cab.highest.0 as u64);
-    if cab.active {
-        print::all(b" taken ");
-        print::decimal(cab.taken.0 as u64);
-    }
+fn show_box(out: &mut Output, at: usize, cab: Cab) -> usize {
     let controller = cab.controller;
-    show_settings(controller.settings());
-    print::end_line();
+    let said = session(&mut *out, at, cab);
+    settings(&mut *out, said, controller.settings())
 }
 
-fn show_word(office: Office) {
+fn session(out: &mut Output, at: usize, cab: Cab) -> usize {
+    let highest = cab.highest.0 as u64;
+    let n = [highest, highest, cab.taken.0 as u64];
+    if cab.active {
+        return print::with(&mut *out, at, b"box session _ highest _ taken _", &n);
+    }
+    print::with(&mut *out, at, b"box session none highest _", &n)
+}
+
+// The office's word on its session.
+pub(crate) fn progress(out: &mut Output, at: usize, office: Office) -> usize {
     match office::progress(office) {
-        Progress::Settled => print::all(b"office settled"),
-        Progress::Waiting => print::all(b"office waiting"),
-        Progress::Over => print::all(b"office over"),
+        Progress::Settled => print::all(&mut *out, at, b"settled"),
+        Progress::Waiting => print::all(&mut *out, at, b"waiting"),
+        Progress::Over => print::all(&mut *out, at, b"over"),
     }
 }
 
-fn show_counts(office: Office) {
-    print::all(b" session ");
-    print::decimal(office.session.0 as u64);
-    print::all(b" confirmed ");
-    print::decimal(office.confirmed.0 as u64);
-    print::all(b" issued ");
-    print::decimal(office.issued.0 as u64);
+fn counts(out: &mut Output, at: usize, office: Office) -> usize {
+    let n = [
+        office.session.0 as u64,
+        office.confirmed.0 as u64,
+        office.issued.0 as u64,
+    ];
+    print::with(&mut *out, at, b" session _ confirmed _ issued _", &n)
 }
 
-fn show_office(office: Office) {
-    show_word(office);
+fn show_office(out: &mut Output, at: usize, office: Office) -> usize {
+    let named = print::all(&mut *out, at, b"office ");
+    let said = progress(&mut *out, named, office);
     let stage = office.stage;
     match stage {
-        Stage::Unopened => print::end_line(),
-        Stage::Awaiting => {
-            show_counts(office);
-            print::end_line();
-        }
+        Stage::Unopened => print::end_line(&mut *out, said),
+        Stage::Awaiting => counts_only(&mut *out, said, office),
         Stage::Live => {
-            show_counts(office);
-            show_settings(office.settings);
-            print::end_line();
+            let told = counts(&mut *out, said, office);
+            settings(&mut *out, told, office.settings)
         }
-        Stage::Ended => {
-            show_counts(office);
-            print::end_line();
-        }
+        Stage::Ended => counts_only(&mut *out, said, office),
     }
+}
+
+fn counts_only(out: &mut Output, at: usize, office: Office) -> usize {
+    let told = counts(&mut *out, at, office);
+    print::end_line(&mut *out, told)
 }

@@ -1,6 +1,5 @@
 // Places in a line, and what stands between two of them.
 ghost use mathlib.Core.Path.{_≡_};
-ghost use Prim.Native.Nat.{_≤_};
 ghost use Rattle.text.specs.Text as spec;
 
 // s[from..to], or nothing where s has no such part.
@@ -19,7 +18,6 @@ pub fn part(s: &[u8], from: usize, to: usize) -> &[u8]
 // The first place from start on where the byte stands, or the end; start itself where that is past the end.
 pub fn find(s: &[u8], start: usize, byte: u8) -> usize
     ensures { λ r. ⌜ r ≡ spec.find (now (s .entry)) start byte ⌝ }
-    ensures { λ r. ⌜ start ≤ r ⌝ }
 {
     let mut at = start;
     while at < s.len() {

@@ -1,17 +1,13 @@
-use Prim.Native.Nat.{_-_, _≤_}
-use native.Mathlib.Omega.{arith}
-use mathlib.Core.Path.{_≡_}
-use lib.ListN.{length}
+use Prim.Native.Nat.{_-_}
 use borrow.Author.Needs.{needs}
 use Rattle.simulate.proofs.read.Statement.{statement}
 use Rattle.simulate.proofs.read.Tie as tie
 
 abbrev Inv-loop : tie.InvT-loop
-Inv-loop bytes buffer₀ from-box₀ from-office₀ played₀ at₀ buffer from-box from-office played at =
-    (at ≤ length bytes) × (length buffer ≡ length buffer₀) × (length from-box ≡ length from-box₀) × (length from-office ≡ length from-office₀)
+Inv-loop bytes line₀ given₀ buffer₀ slots₀ out₀ world₀ at₀ line given buffer slots out world at = Unit {0}
 
 abbrev μ-loop : tie.MeasureT-loop
-μ-loop bytes buffer₀ from-box₀ from-office₀ played₀ at₀ buffer from-box from-office played at = length bytes - at
+μ-loop bytes line₀ given₀ buffer₀ slots₀ out₀ world₀ at₀ line given buffer slots out world at = 18446744073709551616 - at
 
 loop-holds : tie.Need-loop-holds Inv-loop μ-loop
 loop-holds c = search needs
@@ -19,44 +15,20 @@ loop-holds c = search needs
 find-requires : tie.Need-find-requires Inv-loop μ-loop
 find-requires c κs = search needs
 
-part-requires : tie.Need-part-requires Inv-loop μ-loop
-part-requires c κs = search needs
+piece-requires : tie.Need-piece-requires Inv-loop μ-loop
+piece-requires c κs = search needs
 
-more-requires : tie.Need-more-requires Inv-loop μ-loop
-more-requires c κs = search needs
-
-same-length : tie.Need-same-length Inv-loop μ-loop
-same-length c = search needs
-
-same-length-2 : tie.Need-same-length-2 Inv-loop μ-loop
-same-length-2 c = search needs
-
-same-length-3 : tie.Need-same-length-3 Inv-loop μ-loop
-same-length-3 c = search needs
+wrapping-add-usize-requires : tie.Need-wrapping-add-usize-requires Inv-loop μ-loop
+wrapping-add-usize-requires c κs = search needs
 
 returns : tie.Need-returns Inv-loop μ-loop
 returns c = search needs
 
-ended-requires : tie.Need-ended-requires Inv-loop μ-loop
-ended-requires c κs = search needs
-
-behind-requires : tie.Need-behind-requires Inv-loop μ-loop
-behind-requires c κs = c .before .before .before .before .before .before .before .before .if1 .left
-
 loop-less : tie.Need-loop-less Inv-loop μ-loop
-loop-less c = omega (arith, c .behind .ensures, c .before .before .before .before .before .before .before .before .before .if1 .left, c .before .before .before .before .before .before .before .before .before .before .before .before .before .before .before .find .ensures .1)
+loop-less c = search needs
 
 loop-again : tie.Need-loop-again Inv-loop μ-loop
-loop-again c = (omega (arith, c .behind .ensures, c .before .before .before .before .before .before .before .before .before .if1 .left), search (needs, c .before .before .before .before .before .before .before .before .before .before .before .before .before .before .before .before .before .loop .inv .1), search (needs, c .before .before .before .before .before .before .before .before .before .before .before .before .before .before .before .before .before .loop .inv .2), search (needs, c .before .before .before .before .before .before .before .before .before .before .before .before .before .before .before .before .before .loop .inv .3))
-
-same-length-4 : tie.Need-same-length-4 Inv-loop μ-loop
-same-length-4 c = search needs
-
-same-length-5 : tie.Need-same-length-5 Inv-loop μ-loop
-same-length-5 c = search needs
-
-same-length-6 : tie.Need-same-length-6 Inv-loop μ-loop
-same-length-6 c = search needs
+loop-again c = search needs
 
 returns-2 : tie.Need-returns-2 Inv-loop μ-loop
 returns-2 c = search needs
@@ -69,17 +41,9 @@ read-spec =
     μ-loop
     loop-holds
     find-requires
-    part-requires
-    more-requires
-    same-length
-    same-length-2
-    same-length-3
+    piece-requires
+    wrapping-add-usize-requires
     returns
-    ended-requires
-    behind-requires
     loop-less
     loop-again
-    same-length-4
-    same-length-5
-    same-length-6
     returns-2)

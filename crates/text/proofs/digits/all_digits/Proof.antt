@@ -4,7 +4,7 @@ use mathlib.Core.Path.{_≡_, refl, sym, _∙_}
 use lib.ListN.{length, drop, drop-of-length-le}
 use borrow.Author.Tests.{not-true, not-false}
 use Rattle.text.specs.Text.{all-digits}
-use Rattle.text.proofs.Laws.{all-digits-more}
+use Rattle.text.proofs.Laws.{other-than-digit, one-more-digit}
 use Rattle.text.proofs.digits.all_digits.Statement.{statement}
 use Rattle.text.proofs.digits.all_digits.Tie as tie
 
@@ -26,8 +26,7 @@ digit-requires c κs = search needs
 returns : tie.Need-returns Inv-loop μ-loop
 returns c =
     let l = c .before .before .before .before .loop in
-    let a = c .before .before .before .before .before .before .args in
-    sym (l .inv .1 ∙ rw (all-digits-more (a .s .now) (l .i) (search needs), ← (c .before .digit .ensures), not-true (c .before .digit .result) (c .if1 .taken)))
+    sym (other-than-digit _ (l .i) (search needs) (l .inv .1) (sym (c .before .digit .ensures) ∙ not-true (c .before .digit .result) (c .if1 .taken)))
 
 add-i : tie.Need-add-i Inv-loop μ-loop
 add-i c = search needs
@@ -38,8 +37,7 @@ loop-less c = search needs
 loop-again : tie.Need-loop-again Inv-loop μ-loop
 loop-again c =
     let l = c .before .before .before .before .loop in
-    let a = c .before .before .before .before .before .before .args in
-    (search needs, l .inv .1 ∙ rw (all-digits-more (a .s .now) (l .i) (search needs), ← (c .before .digit .ensures), not-false (c .before .digit .result) (c .if1 .left)))
+    (search needs, one-more-digit _ (l .i) (search needs) (l .inv .1) (sym (c .before .digit .ensures) ∙ not-false (c .before .digit .result) (c .if1 .left)))
 
 returns-2 : tie.Need-returns-2 Inv-loop μ-loop
 unfolding all-digits

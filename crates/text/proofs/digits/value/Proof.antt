@@ -1,11 +1,11 @@
 use borrow.Author.Needs.{needs}
-use Prim.Native.Nat.{_≤_, _-_, _+_, _*_}
-use mathlib.Core.Path.{_≡_, refl, _∙_}
+use Prim.Native.Nat.{_≤_, _-_}
+use mathlib.Core.Path.{_≡_, refl, sym, _∙_}
 use native.Mathlib.Omega.{arith}
-use lib.ListN.{length, getD, drop, drop-of-length-le}
-use borrow.Author.Tests.{le-leb, lt-leb}
-use Rattle.text.specs.Text.{digit-value, value-from, largest-u64, within-u64}
-use Rattle.text.proofs.Laws.{value-more, value-grows}
+use lib.ListN.{length, drop, drop-of-length-le}
+use borrow.Author.Tests.{le-leb}
+use Rattle.text.specs.Text.{value-from, largest-u64, within-u64}
+use Rattle.text.proofs.Laws.{value-more, past-largest}
 use Rattle.text.proofs.digits.value.Statement.{statement}
 use Rattle.text.proofs.digits.value.Tie as tie
 
@@ -28,13 +28,9 @@ sub-if1 : tie.Need-sub-if1 Inv-loop μ-loop
 sub-if1 c = search needs
 
 returns : tie.Need-returns Inv-loop μ-loop
-unfolding within-u64
 returns c =
     let l = c .before .before .before .before .loop in
-    let s = c .before .before .before .before .before .before .args .s .now in
-    let whole : value-from 0 s ≡ value-from (10 * l .n + digit-value (getD s (l .i) 0)) (drop (l .i + 1) s) = l .inv .2 ∙ value-more s (l .i) (search needs) (l .n) in
-    let grown = value-grows (10 * l .n + digit-value (getD s (l .i) 0)) (drop (l .i + 1) s) in
-    simp (lt-leb (value-from 0 s) largest-u64 (omega (arith, c .before .digit-value .ensures)))
+    sym (past-largest _ (l .i) (l .n) (search needs) (l .inv .2) (omega (arith, c .before .digit-value .ensures)))
 
 mul-n : tie.Need-mul-n Inv-loop μ-loop
 mul-n c = search needs
@@ -51,8 +47,7 @@ loop-less c = search needs
 loop-again : tie.Need-loop-again Inv-loop μ-loop
 loop-again c =
     let l = c .before .before .before .before .loop in
-    let s = c .before .before .before .before .before .before .args .s .now in
-    (search needs, search needs, l .inv .2 ∙ value-more s (l .i) (search needs) (l .n) ∙ rw (← (c .before .digit-value .ensures)))
+    (search needs, search needs, l .inv .2 ∙ value-more _ (l .i) (search needs) (l .n) ∙ rw (← (c .before .digit-value .ensures)))
 
 returns-2 : tie.Need-returns-2 Inv-loop μ-loop
 unfolding value-from within-u64

@@ -1,5 +1,5 @@
 use borrow.Author.Needs.{needs}
-use Prim.Native.Nat.{_≤_, _-_, _+_}
+use Prim.Native.Nat.{_-_, _+_}
 use mathlib.Core.Path.{_≡_, refl, sym, _∙_}
 use native.Mathlib.Nat.{add-zero}
 use native.Mathlib.Omega.{arith}
@@ -11,14 +11,14 @@ use Rattle.text.proofs.place.find.Statement.{statement}
 use Rattle.text.proofs.place.find.Tie as tie
 
 abbrev Inv-loop : tie.InvT-loop
-Inv-loop s start byte at₀ at = (start ≤ at) × (find s start byte ≡ at + before byte (drop at s))
+Inv-loop s start byte at₀ at = find s start byte ≡ at + before byte (drop at s)
 
 abbrev μ-loop : tie.MeasureT-loop
 μ-loop s start byte at₀ at = length s - at
 
 loop-holds : tie.Need-loop-holds Inv-loop μ-loop
 unfolding find
-loop-holds c = (search needs, refl)
+loop-holds c = refl
 
 shared-slice-read-if1 : tie.Need-shared-slice-read-if1 Inv-loop μ-loop
 shared-slice-read-if1 c = search needs
@@ -27,7 +27,7 @@ returns : tie.Need-returns Inv-loop μ-loop
 returns c =
     let l = c .before .before .before .loop in
     let a = c .before .before .before .before .args in
-    (sym (l .inv .1 ∙ rw (before-more (a .s .now) (l .at) (search needs) (a .byte), eq-eqb _ _ (c .if1 .taken), add-zero)), search needs)
+    sym (l .inv ∙ rw (before-more (a .s .now) (l .at) (search needs) (a .byte), eq-eqb _ _ (c .if1 .taken), add-zero))
 
 add-at : tie.Need-add-at Inv-loop μ-loop
 add-at c = search needs
@@ -39,13 +39,13 @@ loop-again : tie.Need-loop-again Inv-loop μ-loop
 loop-again c =
     let l = c .before .before .before .loop in
     let a = c .before .before .before .before .args in
-    (search needs, l .inv .1 ∙ rw (before-more (a .s .now) (l .at) (search needs) (a .byte), ne-eqb _ _ (c .if1 .left)) (omega arith))
+    l .inv ∙ rw (before-more (a .s .now) (l .at) (search needs) (a .byte), ne-eqb _ _ (c .if1 .left)) (omega arith)
 
 returns-2 : tie.Need-returns-2 Inv-loop μ-loop
 unfolding before
 returns-2 c =
     let l = c .before .loop in
-    (sym (l .inv .1 ∙ rw (drop-of-length-le _ (c .loop-test .left), add-zero)), search needs)
+    sym (l .inv ∙ rw (drop-of-length-le _ (c .loop-test .left), add-zero))
 
 pub find-spec : {M : Type 1} → statement M
 find-spec =

@@ -16,7 +16,7 @@ skip-spaces-requires c κs = search needs
 
 returns : tie.Need-returns
 unfolding after-word
-returns c = c .skip-spaces .ensures ∙ rw (c .before .rest .ensures, c .before .before .find .ensures .0, find-first)
+returns c = c .skip-spaces .ensures ∙ rw (c .before .rest .ensures, c .before .before .find .ensures, find-first)
 
 pub after-word-spec : {M : Type 1} → statement M
 after-word-spec = tie.close (tie.spec find-requires rest-requires skip-spaces-requires returns)

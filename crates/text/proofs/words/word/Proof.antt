@@ -13,7 +13,7 @@ part-requires c κs = search needs
 
 returns : tie.Need-returns
 unfolding word
-returns c = c .part .ensures ∙ rw (c .before .find .ensures .0, find-first) (part-front _ _ (before-within 0x20 _))
+returns c = c .part .ensures ∙ rw (c .before .find .ensures, find-first) (part-front _ _ (before-within 0x20 _))
 
 pub word-spec : {M : Type 1} → statement M
 word-spec = tie.close (tie.spec find-requires part-requires returns)

@@ -1,0 +1,141 @@
+// Frames of the link to bytes and back.
+use crate::arguments;
+use crate::arguments::Long;
+use crate::arguments::Short;
+use crate::asked;
+use crate::asked::Action;
+use crate::asked::Asked;
+use crate::asked::Fault;
+use crate::asked::Lent;
+use crate::asked::Made;
+use crate::buffers::Output;
+use crate::buffers::Page;
+use crate::print;
+use frame::Change;
+use frame::Frame;
+use frame::Kind;
+use frame::OrderNumber;
+use frame::SessionId;
+use settings::Settings;
+use text::HexByte;
+
+// encode open S, welcome S, order S N raise N, lower N or command BYTES, ack S N, refuse S N
+pub(crate) fn encode(s: &[u8], given: &mut Page) -> Asked {
+    let e = link::encode(named(s));
+    let bytes = e.bytes;
+    let len = e.len;
+    if len == 0 {
+        return asked::wrong(Fault::NotAFrame);
+    }
+    base::store(&bytes, &mut *given, 0);
+    Asked {
+        action: Action::Make(Made::Encoded),
+        len,
+        lent: Lent::Room,
+    }
+}
+
+// The frame that a text names; if it names none, the malformed one, which has no bytes.
+fn named(s: &[u8]) -> Frame {
+    let rest = text::after_word(s);
+    let Long::Of(session) = arguments::long_of(text::word(rest)) else {
+        return Frame::malformed();
+    };
+    of_session(text::word(s), SessionId(session), text::after_word(rest))
+}
+
+fn of_session(kind: &[u8], session: SessionId, s: &[u8]) -> Frame {
+    if s.len() == 0 {
+        return without_number(kind, session);
+    }
+    let Short::Of(n) = arguments::short_of(text::word(s)) else {
+        return Frame::malformed();
+    };
+    numbered(kind, session, n, text::after_word(s))
+}
+
+fn without_number(kind: &[u8], session: SessionId) -> Frame {
+    if check::same(kind, b"open") {
+        return Frame::opening(session);
+    }
+    if check::same(kind, b"welcome") {
+        return Frame::welcome(session, Settings::fresh());
+    }
+    Frame::malformed()
+}
+
+fn numbered(kind: &[u8], session: SessionId, n: u16, s: &[u8]) -> Frame {
+    if check::same(kind, b"order") {
+        return order(session, OrderNumber(n), s);
+    }
+    if 0 < s.len() {
+        return Frame::malformed();
+    }
+    if check::same(kind, b"ack") {
+        return Frame::ack(session, OrderNumber(n));
+    }
+    if check::same(kind, b"refuse") {
+        return refuse(session, n);
+    }
+    Frame::malformed()
+}
+
+fn refuse(session: SessionId, n: u16) -> Frame {
+    if 255 < n {
+        return Frame::malformed();
+    }
+    Frame::refuse(session, n as u8)
+}
+
+fn order(session: SessionId, number: OrderNumber, s: &[u8]) -> Frame {
+    let way = text::word(s);
+    let rest = text::after_word(s);
+    if check::same(way, b"command") {
+        return order_command(session, number, rest);
+    }
+    let Short::Of(step) = arguments::short_of(rest) else {
+        return Frame::malformed();
+    };
+    if check::same(way, b"raise") {
+        return Frame::order(session, number, Change::raise(step));
+    }
+    if check::same(way, b"lower") {
+        return Frame::order(session, number, Change::lower(step));
+    }
+    Frame::malformed()
+}
+
+fn order_command(session: SessionId, number: OrderNumber, s: &[u8]) -> Frame {
+    let HexByte::Of(command) = text::hex_byte(text::word(s)) else {
+        return Frame::malformed();
+    };
+    let rest = text::after_word(s);
+    let mut body = io::buffer();
+    let read = arguments::bytes(rest, &mut body);
+    if read.end < rest.len() {
+        return Frame::malformed();
+    }
+    Frame::order(session, number, commanded(command, &body, read.len))
+}
+
+fn commanded(command: u8, body: &Page, len: usize) -> Change {
+    Change::command(command, text::part(body, 0, len))
+}
+
+// decode BYTES
+pub(crate) fn decoded(out: &mut Output, at: usize, bytes: &[u8]) -> usize {
+    let frame = link::decode(bytes);
+    let kind = frame.kind;
+    let n = [frame.session.0 as u64, frame.number.0 as u64];
+    match kind {
+        Kind::Malformed => print::all(&mut *out, at, b"malformed"),
+        Kind::Opening => print::with(&mut *out, at, b"open _", &n),
+        Kind::Welcome => print::with(&mut *out, at, b"welcome _", &n),
+        Kind::Order => print::with(&mut *out, at, b"order _ _", &n),
+        Kind::Ack => print::with(&mut *out, at, b"ack _ _", &n),
+        Kind::Refuse(r) => {
+            let said = print::with(&mut *out, at, b"refuse _ ", &n);
+            print::decimal(&mut *out, said, r as u64)
+        }
+    }
+}

@@ -1,0 +1,150 @@
+// The calls at box and office.
+use crate::asked::Lent;
+use crate::buffers::Output;
+use crate::buffers::Page;
+use crate::buffers::Slots;
+use crate::frames;
+use crate::frames::End;
+use crate::lending;
+use crate::print;
+use crate::world::Notes;
+use crate::world::Script;
+use crate::world::World;
+use calls::Answered;
+use calls::Call;
+use frame::Ask;
+use frame::Frame;
+use link::FRAME_LIMIT;
+use session::Ends;
+
+// A call, with its answer printed from `at` on and the frame that it wrote kept.
+pub(crate) fn call(
+    world: World,
+    script: Script,
+    at: usize,
+    call: Call,
+    lent: Lent,
+    bytes: &[u8],
+    buffer: &mut Page,
+    slots: &mut Slots,
+    out: &mut Output,
+) -> World {
+    let n = lending::length(lent, world.notes.room);
+    let done = run(world.ends, call, lent, bytes, n, &mut *buffer);
+    let after = done.ends;
+    let bench = world.bench;
+    let verdict = done.verdict;
+    let len = done.len;
+    let answered = print::answer(&mut *out, at, verdict, text::part(buffer, 0, len));
+    let end = lending::told(&mut *out, answered, lent, text::part(buffer, len, n));
+    let kept = kept(
+        world.notes,
+        caller(call),
+        text::part(buffer, 0, len),
+        &mut *slots,
+    );
+    World {
+        ends: after,
+        bench,
+        notes: noted(kept, after.cab.active, after.cab.highest.0, end),
+        script,
+    }
+}
+
+fn run(ends: Ends, call: Call, lent: Lent, bytes: &[u8], n: usize, buffer: &mut Page) -> Answered {
+    lending::prepare(lent, &mut *buffer);
+    run_lent(ends, call, bytes, n, buffer)
+}
+
+// A call that is lent n bytes of a page.
+fn run_lent(ends: Ends, call: Call, bytes: &[u8], n: usize, page: &mut [u8]) -> Answered {
+    if page.len() < n {
+        return calls::run(ends, call, bytes, &mut *page);
+    }
+    calls::run(ends, call, bytes, &mut page[0..n])
+}
+
+fn caller(call: Call) -> End {
+    match call {
+        Call::Restart(_) => End::Box,
+        Call::BoxFrame => End::Box,
+        Call::OpenSession(_) => End::Office,
+        Call::Issue(_) => End::Office,
+        Call::Resend(_) => End::Office,
+        Call::Reopen => End::Office,
+        Call::OfficeFrame => End::Office,
+    }
+}
+
+fn kept(notes: Notes, end: End, frame: &[u8], slots: &mut Slots) -> Notes {
+    if frame.len() == 0 {
+        return notes;
+    }
+    let mut next = notes;
+    match end {
+        End::Box => {
+            frames::keep(&mut *slots, End::Box, notes.box_frames, frame);
+            next.box_frames = std::num::wrapping_add_u64(notes.box_frames, 1);
+        }
+        End::Office => {
+            frames::keep(&mut *slots, End::Office, notes.office_frames, frame);
+            next.office_frames = std::num::wrapping_add_u64(notes.office_frames, 1);
+        }
+    }
+    next
+}
+
+// The notes after a call, where the box has this session open.
+fn noted(notes: Notes, active: bool, session: u32, gathered: usize) -> Notes {
+    let mut next = notes;
+    next.gathered = gathered;
+    if !active {
+        return next;
+    }
+    if session < notes.opened {
+        return next;
+    }
+    next.opened = session;
+    next
+}
+
+// issue-many N: so many orders to raise by 0, each confirmed at once by an ACK.
+pub(crate) fn many(world: World, n: u16, out: &mut Output) -> World {
+    let at = print::ok(&mut *out, world.notes.gathered);
+    let ends = many_times(world.ends, n);
+    let mut next = world;
+    next.ends = ends;
+    next.notes.gathered = at;
+    next
+}
+
+fn many_times(start: Ends, n: u16) -> Ends {
+    let mut ends = start;
+    let mut i: u16 = 0;
+    while i < n {
+        ends = confirmed(issued(ends));
+        i += 1;
+    }
+    ends
+}
+
+fn issued(ends: Ends) -> Ends {
+    let mut frame = [0; FRAME_LIMIT];
+    let done = calls::run(ends, Call::Issue(Ask::Raise(0)), b"", &mut frame);
+    done.ends
+}
+
+fn confirmed(ends: Ends) -> Ends {
+    let office = ends.office;
+    let ack = link::encode(Frame::ack(office.session, office.issued));
+    let bytes = ack.bytes;
+    let len = ack.len;
+    let mut none = [0; FRAME_LIMIT];
+    let done = calls::run(
+        ends,
+        Call::OfficeFrame,
+        text::part(&bytes, 0, len),
+        &mut none,
+    );
+    done.ends
+}
