@@ -14,8 +14,9 @@ use Rattle.frame.specs.declared.verdict.Verdict.the-variants.{Accepted}
 use Rattle.cabbox.specs.View as cabbox
 use Rattle.cabbox.specs.declared.Answered.{Answered as CabAnswered}
 use Rattle.office.specs.View as office
+use Rattle.receiving.specs.View as receiving
 use Rattle.office.specs.declared.answer.Answered.{Answered as OfficeAnswered}
-use Rattle.office.specs.declared.receiving.Received.{Received}
+use Rattle.receiving.specs.declared.Received.{Received}
 use Rattle.calls.specs.declared.Answered.{Answered}
 use Rattle.calls.specs.View.{Runs, answered}
 
@@ -61,7 +62,7 @@ module _ (r : Answered) where
   pub restart-runs : (c : Cab) (kept : Office) (out : List ℕ) → r ≡ answered c kept Accepted 0 → Runs (cab-turn (silent c) kept) r out out
   restart-runs c kept out made = rw made (record { state-is = refl; refusal-is = refl; length-is = refl; output-is = refl })
 
-  pub frame-runs : (o : Office) (m : Option Frame) (kept : Cab) (done : Received) (out : List ℕ) → office.Takes (received o m) done →
+  pub frame-runs : (o : Office) (m : Option Frame) (kept : Cab) (done : Received) (out : List ℕ) → receiving.Takes (received o m) done →
       r ≡ answered kept (done .office) (done .verdict) 0 → Runs (office-turn (received o m) kept) r out out
   frame-runs o m kept done out given made =
       rw (made, no-frame o m) (record {

@@ -3,7 +3,7 @@ use frame::Ask;
 use frame::OrderNumber;
 use frame::SessionId;
 use frame::Verdict;
-use office::Received;
+use receiving::Received;
 use session::Cab;
 use session::Ends;
 ghost use mathlib.Core.Path.{_≡_};
@@ -92,6 +92,6 @@ pub fn run(ends: Ends, call: Call, bytes: &[u8], out: &mut [u8]) -> Answered
         Call::Issue(ask) => at_office(ends, office::issue(ends.office, ask, bytes, &mut *out)),
         Call::Resend(number) => at_office(ends, office::resend(ends.office, number, &mut *out)),
         Call::Reopen => at_office(ends, office::reopen(ends.office, &mut *out)),
-        Call::OfficeFrame => taken(ends, office::frame_in(ends.office, bytes)),
+        Call::OfficeFrame => taken(ends, receiving::frame_in(ends.office, bytes)),
     }
 }

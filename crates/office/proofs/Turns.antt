@@ -1,18 +1,16 @@
 -- A call that is refused, or writes a frame: its contract from the refusal found and from what was done.
 use mathlib.Core.Path.{_≡_, refl, sym, subst, ap, _∙_}
 use mathlib.Core.Option.{Option, none, some, Option·some-injective, Option·none-ne-some}
-use mathlib.Core.Bool.{Bool, true, false, not}
 use mathlib.Core.List.{List, [], _∷_}
 use Prim.Native.Nat.{ℕ, zero, suc, _<_, _≤_}
 use native.Mathlib.Omega.{arith}
 use native.Mathlib.Nat.{not-suc-le-zero, le-of-suc-le-suc}
 use lib.ListN.{length, getD}
 use lib.Dec.{eqb, leb, ltb}
-use borrow.Author.Tests.{ltb-true, ltb-false, not-true, not-false}
+use borrow.Author.Tests.{ltb-true, ltb-false}
 use Rattle.base.proofs.Tests.{cond-cases}
 use Rattle.base.specs.Refusal.{number}
 use Rattle.base.specs.declared.refusal.Refusal.{Refusal}
-use Rattle.base.specs.declared.refusal.Refusal.the-variants.{MalformedFrame}
 use Rattle.frame.specs.Frame.{Frame, opening}
 use Rattle.frame.specs.View.{refusal-of}
 use Rattle.frame.specs.declared.verdict.Verdict.{Verdict}
@@ -21,10 +19,9 @@ use Rattle.link.specs.View.{frame-limit}
 use Rattle.session.specs.declared.Office.{Office}
 use Rattle.session.specs.declared.Order.{Order}
 use Rattle.session.specs.Office.{is-awaiting, is-live, open-session, reopen, resend}
-use Rattle.session.specs.Turn.{Turn, wrote, silent, refused}
+use Rattle.session.specs.Turn.{Turn, wrote, refused}
 use Rattle.office.specs.declared.answer.Answered.{Answered}
-use Rattle.office.specs.declared.receiving.Received.{Received}
-use Rattle.office.specs.View.{Gives, Takes, accepted, awaiting, kept-order}
+use Rattle.office.specs.View.{Gives, accepted, awaiting, kept-order}
 
 -- ---- a turn that refuses, or holds to Fits and writes the frame f
 
@@ -88,22 +85,6 @@ resend-decided o n room =
     (λ _. no))
     (λ _. no))
     (λ _. no)
-
--- ---- frames taken
-
-pub takes-frame : (t : Turn Office) (o : Office) (r : Received) → t ≡ silent o → r ≡ record { office = o; verdict = Accepted } → Takes t r
-takes-frame t o r p q = rw (p, q) (record { state-is = refl; refusal-is = refl })
-
-pub takes-none : (t : Turn Office) (o : Office) (r : Received) → t ≡ refused o 4 → r ≡ record { office = o; verdict = Refused MalformedFrame } → Takes t r
-takes-none t o r p q = rw (p, q) (record { state-is = refl; refusal-is = refl })
-
--- ---- a call's answer b, tested as `!b`
-
-pub passed : {b test : Bool} → b ≡ test → not b ≡ false → test ≡ true
-passed {b} e tested = sym e ∙ not-false b tested
-
-pub failed : {b test : Bool} → b ≡ test → not b ≡ true → test ≡ false
-failed {b} e tested = sym e ∙ not-true b tested
 
 -- ---- the window
 

@@ -2,7 +2,6 @@
 use crate::answer::Answered;
 use crate::answer::refused;
 use crate::answer::wrote;
-use crate::state::is_live;
 use base::Refusal;
 use frame::Ask;
 use frame::Change;
@@ -16,6 +15,7 @@ use session::Office;
 use session::Order;
 use session::Stage;
 use session::WINDOW_LIMIT;
+use session::is_live;
 ghost use mathlib.Core.Path.{_≡_};
 ghost use mathlib.Core.Bool.{false};
 ghost use mathlib.Core.Option.{none};

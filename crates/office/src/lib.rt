@@ -1,14 +1,11 @@
 // The office end: it issues orders for one session at a time, and knows what the box has taken.
 mod answer;
 mod issuing;
-mod receiving;
 mod sending;
 mod state;
 
 pub use answer::Answered;
 pub use issuing::issue;
-pub use receiving::Received;
-pub use receiving::frame_in;
 pub use sending::open;
 pub use sending::reopen;
 pub use sending::resend;

@@ -1,4 +1,4 @@
-// An office at its start, its stages, and its word on the session.
+// An office at its start, and its word on the session.
 use frame::Change;
 use frame::OrderNumber;
 use frame::SessionId;
@@ -11,28 +11,6 @@ use settings::Settings;
 ghost use mathlib.Core.Path.{_≡_};
 ghost use Rattle.settings.specs.Settings.{fresh};
 ghost use Rattle.session.specs.Office as spec;
-
-pub(crate) fn is_awaiting(stage: Stage) -> bool
-    ensures { λ r. ⌜ r ≡ spec.is-awaiting stage ⌝ }
-{
-    match stage {
-        Stage::Unopened => false,
-        Stage::Awaiting => true,
-        Stage::Live => false,
-        Stage::Ended => false,
-    }
-}
-
-pub(crate) fn is_live(stage: Stage) -> bool
-    ensures { λ r. ⌜ r ≡ spec.is-live stage ⌝ }
-{
-    match stage {
-        Stage::Unopened => false,
-        Stage::Awaiting => false,
-        Stage::Live => true,
-        Stage::Ended => false,
-    }
-}
 
 // An office at no order, with the settings of a fresh controller until WELCOME tells others.
 pub(crate) fn at_start(stage: Stage, session: SessionId) -> Office

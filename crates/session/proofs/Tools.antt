@@ -4,13 +4,13 @@ use native.Mathlib.Omega.{arith}
 use native.Mathlib.Numerals.{add-one}
 use native.Mathlib.Nat.{not-suc-le-zero, le-of-suc-le-suc}
 use mathlib.Core.Path.{_≡_, refl, sym, ap, _∙_, subst, fun-ext}
-use mathlib.Core.Bool.{true, false, false≢true}
+use mathlib.Core.Bool.{Bool, true, false, not, false≢true}
 use mathlib.Core.List.{List, [], _∷_, _++_, List·Memᴰ, List·Memᴰ·head, List·Memᴰ·tail}
 use mathlib.Core.Option.{some, Option·some-injective, Option·none-ne-some}
 use lib.ListN.{length, take, getElem?, length-append, length-take}
 use lib.Seq.{take-all, take-append-le}
 use lib.Dec.{eqb}
-use borrow.Author.Tests.{eqb-true, eqb-false, eq-eqb, ne-eqb}
+use borrow.Author.Tests.{eqb-true, eqb-false, eq-eqb, ne-eqb, not-true, not-false}
 use Rattle.base.proofs.Tests.{cond-cases}
 use Rattle.frame.specs.Frame.{Frame}
 use Rattle.link.specs.Encoding.{Valid, encode, decode}
@@ -113,3 +113,11 @@ module _ (P : Frame → Type 0) (frames : List (List ℕ)) (each : EachDecodes P
   decodes-one-more f valid holds bytes (List·Memᴰ·head e) =
       record { frame = f; decoded = ap decode e ∙ decode-encode f valid; valid = valid; holds = holds }
   decodes-one-more f valid holds bytes (List·Memᴰ·tail m) = each bytes m
+
+-- ---- a call's answer b, tested as `!b`
+
+pub passed : {b test : Bool} → b ≡ test → not b ≡ false → test ≡ true
+passed {b} e tested = sym e ∙ not-false b tested
+
+pub failed : {b test : Bool} → b ≡ test → not b ≡ true → test ≡ false
+failed {b} e tested = sym e ∙ not-true b tested

@@ -4,6 +4,8 @@ use frame::Change;
 use frame::OrderNumber;
 use frame::SessionId;
 use settings::Settings;
+ghost use mathlib.Core.Path.{_≡_};
+ghost use Rattle.session.specs.Office as spec;
 
 // The cab box. The highest session is the highest opened, or told at a restart; while active, it is the open one, and taken counts its orders run.
 pub struct Cab {
@@ -53,4 +55,26 @@ pub enum Progress {
 pub struct Ends {
     pub cab: Cab,
     pub office: Office,
+}
+
+pub fn is_awaiting(stage: Stage) -> bool
+    ensures { λ r. ⌜ r ≡ spec.is-awaiting stage ⌝ }
+{
+    match stage {
+        Stage::Unopened => false,
+        Stage::Awaiting => true,
+        Stage::Live => false,
+        Stage::Ended => false,
+    }
+}
+
+pub fn is_live(stage: Stage) -> bool
+    ensures { λ r. ⌜ r ≡ spec.is-live stage ⌝ }
+{
+    match stage {
+        Stage::Unopened => false,
+        Stage::Awaiting => false,
+        Stage::Live => true,
+        Stage::Ended => false,
+    }
 }

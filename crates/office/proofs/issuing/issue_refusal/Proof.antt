@@ -2,7 +2,7 @@ use Rattle.base.proofs.Tests.{tests}
 use borrow.Author.Tests.{le-ltb}
 use mathlib.Core.Path.{sym, _∙_}
 use Rattle.session.specs.Office.{issue-refusal}
-use Rattle.office.proofs.Turns.{passed, failed}
+use Rattle.session.proofs.Tools.{passed, failed}
 use borrow.Author.Needs.{needs}
 use Rattle.office.proofs.issuing.issue_refusal.Statement.{statement}
 use Rattle.office.proofs.issuing.issue_refusal.Tie as tie

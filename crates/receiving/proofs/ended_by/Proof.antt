@@ -1,7 +1,7 @@
 use mathlib.Core.Path.{sym, _∙_}
 use borrow.Author.Needs.{needs}
-use Rattle.office.proofs.receiving.ended_by.Statement.{statement}
-use Rattle.office.proofs.receiving.ended_by.Tie as tie
+use Rattle.receiving.proofs.ended_by.Statement.{statement}
+use Rattle.receiving.proofs.ended_by.Tie as tie
 
 is-ending-requires : tie.Need-is-ending-requires
 is-ending-requires c κs = search needs

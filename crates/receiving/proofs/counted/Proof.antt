@@ -1,7 +1,7 @@
 use borrow.Author.Needs.{needs}
 use Rattle.base.proofs.Tests.{tests}
-use Rattle.office.proofs.receiving.counted.Statement.{statement}
-use Rattle.office.proofs.receiving.counted.Tie as tie
+use Rattle.receiving.proofs.counted.Statement.{statement}
+use Rattle.receiving.proofs.counted.Tie as tie
 
 returns : tie.Need-returns
 returns c = search (needs, tests)

@@ -1,7 +1,7 @@
 use borrow.Author.Needs.{needs}
 use Rattle.base.proofs.Tests.{tests}
-use Rattle.office.proofs.receiving.is_ending.Statement.{statement}
-use Rattle.office.proofs.receiving.is_ending.Tie as tie
+use Rattle.receiving.proofs.is_ending.Statement.{statement}
+use Rattle.receiving.proofs.is_ending.Tie as tie
 
 returns : tie.Need-returns
 returns c = search (needs, tests)

@@ -1,6 +1,6 @@
 use borrow.Author.Needs.{needs}
-use Rattle.office.proofs.receiving.frame_in.Statement.{statement}
-use Rattle.office.proofs.receiving.frame_in.Tie as tie
+use Rattle.receiving.proofs.frame_in.Statement.{statement}
+use Rattle.receiving.proofs.frame_in.Tie as tie
 
 decode-requires : tie.Need-decode-requires
 decode-requires c κs = search needs

@@ -1,8 +1,8 @@
 use Rattle.session.specs.Office.{received}
-use Rattle.office.proofs.Turns.{takes-frame, takes-none}
+use Rattle.receiving.proofs.Turns.{takes-frame, takes-none}
 use borrow.Author.Needs.{needs}
-use Rattle.office.proofs.receiving.received_frame.Statement.{statement}
-use Rattle.office.proofs.receiving.received_frame.Tie as tie
+use Rattle.receiving.proofs.received_frame.Statement.{statement}
+use Rattle.receiving.proofs.received_frame.Tie as tie
 
 enum-told : tie.Need-enum-told
 enum-told c = search needs

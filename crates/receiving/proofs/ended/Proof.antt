@@ -1,9 +1,9 @@
 use borrow.Author.Tests.{eq-eqb, ne-eqb}
 use Rattle.session.specs.Office.{ended}
-use Rattle.office.proofs.Turns.{passed, failed}
+use Rattle.session.proofs.Tools.{passed, failed}
 use borrow.Author.Needs.{needs}
-use Rattle.office.proofs.receiving.ended.Statement.{statement}
-use Rattle.office.proofs.receiving.ended.Tie as tie
+use Rattle.receiving.proofs.ended.Statement.{statement}
+use Rattle.receiving.proofs.ended.Tie as tie
 
 in-session-requires : tie.Need-in-session-requires
 in-session-requires c κs = search needs

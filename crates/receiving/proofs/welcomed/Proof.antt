@@ -1,9 +1,9 @@
 use borrow.Author.Tests.{eq-eqb, ne-eqb}
 use Rattle.session.specs.Office.{welcomed}
-use Rattle.office.proofs.Turns.{passed, failed}
+use Rattle.session.proofs.Tools.{passed, failed}
 use borrow.Author.Needs.{needs}
-use Rattle.office.proofs.receiving.welcomed.Statement.{statement}
-use Rattle.office.proofs.receiving.welcomed.Tie as tie
+use Rattle.receiving.proofs.welcomed.Statement.{statement}
+use Rattle.receiving.proofs.welcomed.Tie as tie
 
 is-awaiting-requires : tie.Need-is-awaiting-requires
 is-awaiting-requires c κs = search needs

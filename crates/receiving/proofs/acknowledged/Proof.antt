@@ -1,9 +1,9 @@
 use borrow.Author.Tests.{eq-eqb, ne-eqb}
 use Rattle.session.specs.Office.{acknowledged}
-use Rattle.office.proofs.Turns.{passed, failed}
+use Rattle.session.proofs.Tools.{passed, failed}
 use borrow.Author.Needs.{needs}
-use Rattle.office.proofs.receiving.acknowledged.Statement.{statement}
-use Rattle.office.proofs.receiving.acknowledged.Tie as tie
+use Rattle.receiving.proofs.acknowledged.Statement.{statement}
+use Rattle.receiving.proofs.acknowledged.Tie as tie
 
 is-live-requires : tie.Need-is-live-requires
 is-live-requires c κs = search needs

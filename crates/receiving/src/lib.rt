@@ -1,6 +1,4 @@
-// Frames from the box.
-use crate::state::is_awaiting;
-use crate::state::is_live;
+// Frames from the box, at the office.
 use base::Refusal;
 use frame::Frame;
 use frame::Kind;
@@ -9,13 +7,15 @@ use frame::SessionId;
 use frame::Verdict;
 use session::Office;
 use session::Stage;
+use session::is_awaiting;
+use session::is_live;
 use settings::Settings;
 ghost use mathlib.Core.Path.{_≡_};
 ghost use mathlib.Core.Bool.{cond, _||_};
 ghost use lib.Dec.{eqb};
 ghost use Rattle.frame.specs.View.{meaning};
 ghost use Rattle.session.specs.Office as spec;
-ghost use Rattle.office.specs.View as view;
+ghost use Rattle.receiving.specs.View as view;
 
 pub struct Received {
     pub office: Office,
