@@ -4,27 +4,15 @@ use crate::asked::Action;
 use crate::asked::Asked;
 use crate::asked::Fault;
 use crate::asked::Lent;
-use crate::buffers::Page;
-use calls::Call;
+use crate::asked::Range;
+use crate::buffers::Memory;
+use crate::frames::GIVEN;
 use packet::PACKET_LIMIT;
 use text::DecimalRead;
 use text::HexByte;
 
-// A step, or an order's number.
-pub(crate) enum Short {
-    Of(u16),
-    Wrong(Fault),
-}
-
-// A session.
-pub(crate) enum Long {
-    Of(u32),
-    Wrong(Fault),
-}
-
-// A length up to a limit.
-pub(crate) enum Length {
-    Of(usize),
+pub(crate) enum Number {
+    Of(u64),
     Wrong(Fault),
 }
 
@@ -39,46 +27,28 @@ enum Ending {
     Wrong(Fault),
 }
 
-// The number of at most 16 bits that a word writes.
-pub(crate) fn short_of(word: &[u8]) -> Short {
+// The number that a word writes, up to a limit.
+pub(crate) fn number_of(word: &[u8], limit: u64) -> Number {
     match text::decimal(word) {
         DecimalRead::Of(n) => {
-            if 65535 < n {
-                return Short::Wrong(Fault::OutOfRange);
+            if limit < n {
+                return Number::Wrong(Fault::OutOfRange);
             }
-            Short::Of(n as u16)
+            Number::Of(n)
         }
-        DecimalRead::NotDigits => Short::Wrong(Fault::NotANumber),
-        DecimalRead::TooLarge => Short::Wrong(Fault::OutOfRange),
+        DecimalRead::NotDigits => Number::Wrong(Fault::NotANumber),
+        DecimalRead::TooLarge => Number::Wrong(Fault::OutOfRange),
     }
 }
 
-// The same, of at most 32 bits.
-pub(crate) fn long_of(word: &[u8]) -> Long {
-    match text::decimal(word) {
-        DecimalRead::Of(n) => {
-            if 4294967295 < n {
-                return Long::Wrong(Fault::OutOfRange);
-            }
-            Long::Of(n as u32)
-        }
-        DecimalRead::NotDigits => Long::Wrong(Fault::NotANumber),
-        DecimalRead::TooLarge => Long::Wrong(Fault::OutOfRange),
-    }
+// A number that is within its limit, as one of 16 bits; nothing is cut off.
+pub(crate) fn short(n: u64) -> u16 {
+    (n % 65536) as u16
 }
 
-// The same, of a length.
-pub(crate) fn length_of(word: &[u8], limit: usize) -> Length {
-    match text::decimal(word) {
-        DecimalRead::Of(n) => {
-            if limit < n as usize {
-                return Length::Wrong(Fault::OutOfRange);
-            }
-            Length::Of(n as usize)
-        }
-        DecimalRead::NotDigits => Length::Wrong(Fault::NotANumber),
-        DecimalRead::TooLarge => Length::Wrong(Fault::OutOfRange),
-    }
+// The same of 32 bits.
+pub(crate) fn long(n: u64) -> u32 {
+    (n % 4294967296) as u32
 }
 
 // A line that ends where its arguments do.
@@ -91,14 +61,14 @@ pub(crate) fn ended(action: Action, s: &[u8]) -> Asked {
 
 // into N
 fn into(s: &[u8]) -> Ending {
-    match length_of(text::word(s), PACKET_LIMIT) {
-        Length::Of(n) => {
+    match number_of(text::word(s), PACKET_LIMIT as u64) {
+        Number::Of(n) => {
             if text::after_word(s).len() == 0 {
-                return Ending::Of(Lent::Into(n));
+                return Ending::Of(Lent::Into(n as usize));
             }
             Ending::Wrong(Fault::TooManyWords)
         }
-        Length::Wrong(fault) => Ending::Wrong(fault),
+        Number::Wrong(fault) => Ending::Wrong(fault),
     }
 }
 
@@ -112,43 +82,42 @@ fn lent_by(s: &[u8], otherwise: Fault) -> Ending {
     Ending::Wrong(otherwise)
 }
 
-// An action with len bytes given, on a line that may end in `into N`; what else stands there is wrong.
-pub(crate) fn lent(action: Action, len: usize, s: &[u8], otherwise: Fault) -> Asked {
+// An action on a line that may end in `into N`; what else stands there is wrong.
+pub(crate) fn lent(action: Action, bytes: Range, s: &[u8], otherwise: Fault) -> Asked {
     match lent_by(s, otherwise) {
-        Ending::Of(lent) => Asked { action, len, lent },
+        Ending::Of(lent) => Asked {
+            action,
+            bytes,
+            lent,
+        },
         Ending::Wrong(fault) => asked::wrong(fault),
     }
 }
 
-// A call at box or office whose arguments are read.
-pub(crate) fn call(call: Call, s: &[u8]) -> Asked {
-    lent(Action::Call(call), 0, s, Fault::TooManyWords)
-}
-
 // One byte more, where the next word is one and finds room.
-fn with_next(s: &[u8], given: &mut Page, read: Given) -> Given {
-    let at = read.end;
-    let end = text::find(s, at, b' ');
-    let HexByte::Of(b) = text::hex_byte(text::part(s, at, end)) else {
+fn with_next(s: &[u8], out: &mut [u8], from: usize, read: Given) -> Given {
+    let start = read.end;
+    let end = text::find(s, start, b' ');
+    let HexByte::Of(b) = text::hex_byte(text::part(s, start, end)) else {
         return read;
     };
-    let len = read.len;
-    if given.len() <= len {
+    let at = std::num::wrapping_add_usize(from, read.len);
+    if out.len() <= at {
         return read;
     }
-    given[len] = b;
+    out[at] = b;
     let rest = text::skip_spaces(number::rest(s, end));
     Given {
-        len: len + 1,
+        len: std::num::wrapping_add_usize(read.len, 1),
         end: std::num::wrapping_sub_usize(s.len(), rest.len()),
     }
 }
 
-// The bytes at the front of s.
-pub(crate) fn bytes(s: &[u8], given: &mut Page) -> Given {
+// The bytes that s begins with, stored from a place on.
+pub(crate) fn bytes(s: &[u8], out: &mut [u8], from: usize) -> Given {
     let mut read = Given { len: 0, end: 0 };
     while read.end < s.len() {
-        let next = with_next(s, &mut *given, read);
+        let next = with_next(s, &mut *out, from, read);
         if next.end <= read.end {
             return read;
         }
@@ -158,21 +127,21 @@ pub(crate) fn bytes(s: &[u8], given: &mut Page) -> Given {
 }
 
 // An action whose arguments are bytes.
-pub(crate) fn with_bytes(action: Action, s: &[u8], given: &mut Page) -> Asked {
-    let read = bytes(s, &mut *given);
+pub(crate) fn with_bytes(action: Action, s: &[u8], memory: &mut Memory) -> Asked {
+    let read = bytes(s, &mut *memory, GIVEN);
     if read.end < s.len() {
         return asked::wrong(Fault::NotBytes);
     }
     Asked {
         action,
-        len: read.len,
+        bytes: asked::given(read.len),
         lent: Lent::Room,
     }
 }
 
 // The same, on a line that may end in `into N`.
-pub(crate) fn lent_with_bytes(action: Action, s: &[u8], given: &mut Page) -> Asked {
-    let read = bytes(s, &mut *given);
-    let end = read.end;
-    lent(action, read.len, number::rest(s, end), Fault::NotBytes)
+pub(crate) fn lent_with_bytes(action: Action, s: &[u8], memory: &mut Memory) -> Asked {
+    let read = bytes(s, &mut *memory, GIVEN);
+    let rest = number::rest(s, read.end);
+    lent(action, asked::given(read.len), rest, Fault::NotBytes)
 }

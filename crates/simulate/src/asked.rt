@@ -1,4 +1,6 @@
 // What a line asks for.
+use crate::buffers::Memory;
+use crate::frames::GIVEN;
 use calls::Call;
 use packet::Access;
 
@@ -61,16 +63,26 @@ pub(crate) enum Made {
     Decoded,
 }
 
-pub(crate) enum Action {
+// What only prints.
+pub(crate) enum Said {
     Nothing,
     Wrong(Fault),
-    Call(Call),
+    Told(Told),
+    Made(Made),
+}
+
+// What changes something, and is no call at box or office.
+pub(crate) enum Effect {
     Many(u16),
     Room(usize),
     Fresh,
     Bus(Heard),
-    Tell(Told),
-    Make(Made),
+}
+
+pub(crate) enum Action {
+    Call(Call),
+    Effect(Effect),
+    Say(Said),
 }
 
 // The output that a call is lent: as long as `room` says, or as long as `into` at the line's end says.
@@ -79,22 +91,37 @@ pub(crate) enum Lent {
     Into(usize),
 }
 
-// The bytes given are the first len of the buffer that the reader of lines is lent.
+// Bytes of the memory.
+pub(crate) struct Range {
+    pub from: usize,
+    pub len: usize,
+}
+
 pub(crate) struct Asked {
     pub action: Action,
-    pub len: usize,
+    pub bytes: Range,
     pub lent: Lent,
+}
+
+// The bytes that the line itself gives.
+pub(crate) fn given(len: usize) -> Range {
+    Range { from: GIVEN, len }
+}
+
+pub(crate) fn bytes(memory: &Memory, range: Range) -> &[u8] {
+    let from = range.from;
+    text::part(memory, from, std::num::wrapping_add_usize(from, range.len))
 }
 
 // An action with nothing behind it.
 pub(crate) fn plain(action: Action) -> Asked {
     Asked {
         action,
-        len: 0,
+        bytes: given(0),
         lent: Lent::Room,
     }
 }
 
 pub(crate) fn wrong(fault: Fault) -> Asked {
-    plain(Action::Wrong(fault))
+    plain(Action::Say(Said::Wrong(fault)))
 }

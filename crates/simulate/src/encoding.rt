@@ -1,15 +1,17 @@
 // Frames of the link to bytes and back.
 use crate::arguments;
-use crate::arguments::Long;
-use crate::arguments::Short;
+use crate::arguments::Number;
 use crate::asked;
 use crate::asked::Action;
 use crate::asked::Asked;
 use crate::asked::Fault;
 use crate::asked::Lent;
 use crate::asked::Made;
+use crate::asked::Said;
+use crate::buffers::Memory;
 use crate::buffers::Output;
 use crate::buffers::Page;
+use crate::frames::GIVEN;
 use crate::print;
 use frame::Change;
 use frame::Frame;
@@ -20,17 +22,17 @@ use settings::Settings;
 use text::HexByte;
 
 // encode open S, welcome S, order S N raise N, lower N or command BYTES, ack S N, refuse S N
-pub(crate) fn encode(s: &[u8], given: &mut Page) -> Asked {
+pub(crate) fn encode(s: &[u8], memory: &mut Memory) -> Asked {
     let e = link::encode(named(s));
     let bytes = e.bytes;
     let len = e.len;
     if len == 0 {
         return asked::wrong(Fault::NotAFrame);
     }
-    base::store(&bytes, &mut *given, 0);
+    base::store(&bytes, &mut *memory, GIVEN);
     Asked {
-        action: Action::Make(Made::Encoded),
-        len,
+        action: Action::Say(Said::Made(Made::Encoded)),
+        bytes: asked::given(len),
         lent: Lent::Room,
     }
 }
@@ -38,20 +40,24 @@ pub(crate) fn encode(s: &[u8], given: &mut Page) -> Asked {
 // The frame that a text names; if it names none, the malformed one, which has no bytes.
 fn named(s: &[u8]) -> Frame {
     let rest = text::after_word(s);
-    let Long::Of(session) = arguments::long_of(text::word(rest)) else {
+    let Number::Of(session) = arguments::number_of(text::word(rest), u32::MAX as u64) else {
         return Frame::malformed();
     };
-    of_session(text::word(s), SessionId(session), text::after_word(rest))
+    of_session(
+        text::word(s),
+        SessionId(arguments::long(session)),
+        text::after_word(rest),
+    )
 }
 
 fn of_session(kind: &[u8], session: SessionId, s: &[u8]) -> Frame {
     if s.len() == 0 {
         return without_number(kind, session);
     }
-    let Short::Of(n) = arguments::short_of(text::word(s)) else {
+    let Number::Of(n) = arguments::number_of(text::word(s), u16::MAX as u64) else {
         return Frame::malformed();
     };
-    numbered(kind, session, n, text::after_word(s))
+    numbered(kind, session, arguments::short(n), text::after_word(s))
 }
 
 fn without_number(kind: &[u8], session: SessionId) -> Frame {
@@ -93,9 +99,10 @@ fn order(session: SessionId, number: OrderNumber, s: &[u8]) -> Frame {
     if check::same(way, b"command") {
         return order_command(session, number, rest);
     }
-    let Short::Of(step) = arguments::short_of(rest) else {
+    let Number::Of(n) = arguments::number_of(rest, u16::MAX as u64) else {
         return Frame::malformed();
     };
+    let step = arguments::short(n);
     if check::same(way, b"raise") {
         return Frame::order(session, number, Change::raise(step));
     }
@@ -111,7 +118,7 @@ fn order_command(session: SessionId, number: OrderNumber, s: &[u8]) -> Frame {
     };
     let rest = text::after_word(s);
     let mut body = io::buffer();
-    let read = arguments::bytes(rest, &mut body);
+    let read = arguments::bytes(rest, &mut body, 0);
     if read.end < rest.len() {
         return Frame::malformed();
     }

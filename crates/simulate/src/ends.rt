@@ -1,15 +1,13 @@
 // The calls at box and office.
-use crate::asked::Lent;
+use crate::asked;
+use crate::asked::Asked;
+use crate::buffers::Memory;
 use crate::buffers::Output;
-use crate::buffers::Page;
-use crate::buffers::Slots;
 use crate::frames;
 use crate::frames::End;
 use crate::lending;
 use crate::print;
 use crate::world::Notes;
-use crate::world::Script;
-use crate::world::World;
 use calls::Answered;
 use calls::Call;
 use frame::Ask;
@@ -17,47 +15,39 @@ use frame::Frame;
 use link::FRAME_LIMIT;
 use session::Ends;
 
-// A call, with its answer printed from `at` on and the frame that it wrote kept.
+pub(crate) struct Called {
+    pub ends: Ends,
+    pub notes: Notes,
+}
+
+// A call, with its answer printed and the frame that it wrote kept.
 pub(crate) fn call(
-    world: World,
-    script: Script,
-    at: usize,
+    ends: Ends,
+    notes: Notes,
     call: Call,
-    lent: Lent,
-    bytes: &[u8],
-    buffer: &mut Page,
-    slots: &mut Slots,
+    asked: Asked,
+    memory: &mut Memory,
     out: &mut Output,
-) -> World {
-    let n = lending::length(lent, world.notes.room);
-    let done = run(world.ends, call, lent, bytes, n, &mut *buffer);
-    let after = done.ends;
-    let bench = world.bench;
+) -> Called {
+    let lent = asked.lent;
+    let n = lending::length(lent, notes.room);
+    let mut page = lending::untouched();
+    let done = run(ends, call, asked::bytes(memory, asked.bytes), n, &mut page);
     let verdict = done.verdict;
     let len = done.len;
-    let answered = print::answer(&mut *out, at, verdict, text::part(buffer, 0, len));
-    let end = lending::told(&mut *out, answered, lent, text::part(buffer, len, n));
-    let kept = kept(
-        world.notes,
-        caller(call),
-        text::part(buffer, 0, len),
-        &mut *slots,
-    );
-    World {
+    let frame = text::part(&page, 0, len);
+    let answered = print::answer(&mut *out, notes.gathered, verdict, frame);
+    let end = lending::told(&mut *out, answered, lent, text::part(&page, len, n));
+    let kept = kept(notes, caller(call), frame, &mut *memory);
+    let after = done.ends;
+    Called {
         ends: after,
-        bench,
         notes: noted(kept, after.cab.active, after.cab.highest.0, end),
-        script,
     }
 }
 
-fn run(ends: Ends, call: Call, lent: Lent, bytes: &[u8], n: usize, buffer: &mut Page) -> Answered {
-    lending::prepare(lent, &mut *buffer);
-    run_lent(ends, call, bytes, n, buffer)
-}
-
-// A call that is lent n bytes of a page.
-fn run_lent(ends: Ends, call: Call, bytes: &[u8], n: usize, page: &mut [u8]) -> Answered {
+// A call that is lent n bytes.
+fn run(ends: Ends, call: Call, bytes: &[u8], n: usize, page: &mut [u8]) -> Answered {
     if page.len() < n {
         return calls::run(ends, call, bytes, &mut *page);
     }
@@ -76,18 +66,18 @@ fn caller(call: Call) -> End {
     }
 }
 
-fn kept(notes: Notes, end: End, frame: &[u8], slots: &mut Slots) -> Notes {
+fn kept(notes: Notes, end: End, frame: &[u8], memory: &mut Memory) -> Notes {
     if frame.len() == 0 {
         return notes;
     }
     let mut next = notes;
     match end {
         End::Box => {
-            frames::keep(&mut *slots, End::Box, notes.box_frames, frame);
+            frames::keep(&mut *memory, End::Box, notes.box_frames, frame);
             next.box_frames = std::num::wrapping_add_u64(notes.box_frames, 1);
         }
         End::Office => {
-            frames::keep(&mut *slots, End::Office, notes.office_frames, frame);
+            frames::keep(&mut *memory, End::Office, notes.office_frames, frame);
             next.office_frames = std::num::wrapping_add_u64(notes.office_frames, 1);
         }
     }
@@ -109,16 +99,7 @@ fn noted(notes: Notes, active: bool, session: u32, gathered: usize) -> Notes {
 }
 
 // issue-many N: so many orders to raise by 0, each confirmed at once by an ACK.
-pub(crate) fn many(world: World, n: u16, out: &mut Output) -> World {
-    let at = print::ok(&mut *out, world.notes.gathered);
-    let ends = many_times(world.ends, n);
-    let mut next = world;
-    next.ends = ends;
-    next.notes.gathered = at;
-    next
-}
-
-fn many_times(start: Ends, n: u16) -> Ends {
+pub(crate) fn many(start: Ends, n: u16) -> Ends {
     let mut ends = start;
     let mut i: u16 = 0;
     while i < n {

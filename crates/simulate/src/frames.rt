@@ -1,6 +1,7 @@
-// The last frames that each end has written, each in a slot of its length and its bytes: the box's in the first half of the
-// buffer, the office's in the second.
-use crate::buffers::Slots;
+// The last frames that each end has written, each in a slot of its length and its bytes: the box's, then the office's. Behind
+// them stand the bytes that a line gives.
+use crate::asked::Range;
+use crate::buffers::Memory;
 use link::FRAME_LIMIT;
 
 const KEPT: u64 = 4096;
@@ -9,15 +10,18 @@ const SLOT: usize = 1 + FRAME_LIMIT;
 
 const HALF: usize = KEPT as usize * SLOT;
 
-pub(crate) const SLOTS: usize = 2 * HALF;
+// Where the bytes that a line gives begin.
+pub(crate) const GIVEN: usize = 2 * HALF;
+
+pub(crate) const MEMORY: usize = GIVEN + 4096;
 
 pub(crate) enum End {
     Box,
     Office,
 }
 
-pub(crate) fn none_kept() -> Slots {
-    [0; SLOTS]
+pub(crate) fn none_kept() -> Memory {
+    [0; MEMORY]
 }
 
 // Where frame i of an end stands, counted from 0.
@@ -30,29 +34,31 @@ fn slot(end: End, i: u64) -> usize {
 }
 
 // Keeps the frame that an end wrote after so many others.
-pub(crate) fn keep(slots: &mut Slots, end: End, before: u64, frame: &[u8]) {
+pub(crate) fn keep(memory: &mut Memory, end: End, before: u64, frame: &[u8]) {
     if FRAME_LIMIT < frame.len() {
         return;
     }
     let at = slot(end, before);
     let len = [frame.len() as u8];
-    base::store(&len, &mut *slots, at);
-    base::store(frame, &mut *slots, std::num::wrapping_add_usize(at, 1));
+    base::store(&len, &mut *memory, at);
+    base::store(frame, &mut *memory, std::num::wrapping_add_usize(at, 1));
 }
 
 // Frame i of so many, counted from 1; no bytes where it is not kept.
-pub(crate) fn kept(slots: &Slots, end: End, written: u64, i: u64) -> &[u8] {
+pub(crate) fn kept(memory: &Memory, end: End, written: u64, i: u64) -> Range {
+    let none = Range { from: 0, len: 0 };
     if i == 0 {
-        return text::part(slots, 0, 0);
+        return none;
     }
     if written < i {
-        return text::part(slots, 0, 0);
+        return none;
     }
     if KEPT <= written - i {
-        return text::part(slots, 0, 0);
+        return none;
     }
     let at = slot(end, i - 1);
-    let from = std::num::wrapping_add_usize(at, 1);
-    let len = number::byte(slots, at) as usize;
-    text::part(slots, from, std::num::wrapping_add_usize(from, len))
+    Range {
+        from: std::num::wrapping_add_usize(at, 1),
+        len: number::byte(memory, at) as usize,
+    }
 }

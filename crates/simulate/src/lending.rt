@@ -1,14 +1,17 @@
 // The output that a call is lent.
 use crate::asked::Lent;
 use crate::buffers::Output;
-use crate::buffers::Page;
 use crate::print;
 use packet::PACKET_LIMIT;
 
-// What a byte of an output holds before the call, where it is told afterwards whether it is as it was.
+// What a byte of an output holds before the call, so that it can be told afterwards whether it is as it was.
 const UNTOUCHED: u8 = 0xEE;
 
-// How much of a page is lent.
+pub(crate) fn untouched() -> [u8; PACKET_LIMIT] {
+    [UNTOUCHED; PACKET_LIMIT]
+}
+
+// How much is lent.
 pub(crate) fn length(lent: Lent, room: usize) -> usize {
     match lent {
         Lent::Room => room,
@@ -16,19 +19,7 @@ pub(crate) fn length(lent: Lent, room: usize) -> usize {
     }
 }
 
-pub(crate) fn prepare(lent: Lent, buffer: &mut Page) {
-    match lent {
-        Lent::Room => {}
-        Lent::Into(_) => fill(&mut *buffer),
-    }
-}
-
-fn fill(buffer: &mut Page) {
-    let untouched = [UNTOUCHED; PACKET_LIMIT];
-    base::store(&untouched, &mut *buffer, 0);
-}
-
-fn untouched(s: &[u8]) -> u64 {
+fn count_untouched(s: &[u8]) -> u64 {
     let mut n: u64 = 0;
     let mut i: usize = 0;
     while i < s.len() {
@@ -43,7 +34,7 @@ pub(crate) fn told(out: &mut Output, at: usize, lent: Lent, rest: &[u8]) -> usiz
     match lent {
         Lent::Room => print::end_line(&mut *out, at),
         Lent::Into(_) => {
-            let n = [untouched(rest)];
+            let n = [count_untouched(rest)];
             print::with(&mut *out, at, b", _ untouched\n", &n)
         }
     }

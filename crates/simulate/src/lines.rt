@@ -1,20 +1,20 @@
 // A line's call, by its first word.
 use crate::arguments;
-use crate::arguments::Length;
-use crate::arguments::Long;
-use crate::arguments::Short;
+use crate::arguments::Number;
 use crate::asked;
 use crate::asked::Action;
 use crate::asked::Asked;
+use crate::asked::Effect;
 use crate::asked::Fault;
 use crate::asked::Heard;
 use crate::asked::Holder;
 use crate::asked::Made;
+use crate::asked::Said;
 use crate::asked::Told;
-use crate::buffers::Page;
-use crate::buffers::Slots;
+use crate::buffers::Memory;
 use crate::carried;
 use crate::encoding;
+use crate::frames::End;
 use crate::registers_named;
 use crate::world::Notes;
 use crate::world::ROOM_LIMIT;
@@ -26,101 +26,152 @@ use packet::Access;
 use text::HexByte;
 
 // A call, or nothing.
-pub(crate) fn read(s: &[u8], notes: Notes, slots: &Slots, given: &mut Page) -> Asked {
+pub(crate) fn read(s: &[u8], notes: Notes, memory: &mut Memory) -> Asked {
     if s.len() == 0 {
-        return asked::plain(Action::Nothing);
+        return asked::plain(Action::Say(Said::Nothing));
     }
     let name = text::word(s);
     let rest = text::after_word(s);
     if check::same(name, b"to-box") {
-        return carried::to_box(rest, notes.office_frames, slots, &mut *given);
+        return carried::carried(End::Office, notes.office_frames, rest, memory);
     }
     if check::same(name, b"to-office") {
-        return carried::to_office(rest, notes.box_frames, slots, &mut *given);
+        return carried::carried(End::Box, notes.box_frames, rest, memory);
     }
     if check::same(name, b"restart") {
         return restart(rest, notes.opened);
     }
-    at_office(name, rest, &mut *given)
+    with_number(name, rest, &mut *memory)
 }
 
-// The office's calls that write.
-fn at_office(name: &[u8], s: &[u8], given: &mut Page) -> Asked {
+// The office's calls that take a number.
+enum Counted {
+    Raise,
+    Lower,
+    Resend,
+    Open,
+}
+
+fn with_number(name: &[u8], s: &[u8], memory: &mut Memory) -> Asked {
     if check::same(name, b"raise") {
-        return raise(s);
+        return numbered(Counted::Raise, u16::MAX as u64, s);
     }
     if check::same(name, b"lower") {
-        return lower(s);
+        return numbered(Counted::Lower, u16::MAX as u64, s);
     }
     if check::same(name, b"resend") {
-        return resend(s);
+        return numbered(Counted::Resend, u16::MAX as u64, s);
     }
     if check::same(name, b"open") {
-        return open(s);
+        return numbered(Counted::Open, u32::MAX as u64, s);
     }
-    if check::same(name, b"reopen") {
-        return arguments::call(Call::Reopen, s);
-    }
-    with_bytes(name, s, &mut *given)
+    with_bytes(name, s, &mut *memory)
 }
 
-// The calls that take bytes.
-fn with_bytes(name: &[u8], s: &[u8], given: &mut Page) -> Asked {
+fn numbered(of: Counted, limit: u64, s: &[u8]) -> Asked {
+    match arguments::number_of(text::word(s), limit) {
+        Number::Of(n) => arguments::lent(
+            Action::Call(call(of, n)),
+            asked::given(0),
+            text::after_word(s),
+            Fault::TooManyWords,
+        ),
+        Number::Wrong(fault) => asked::wrong(fault),
+    }
+}
+
+fn call(of: Counted, n: u64) -> Call {
+    match of {
+        Counted::Raise => Call::Issue(Ask::Raise(arguments::short(n))),
+        Counted::Lower => Call::Issue(Ask::Lower(arguments::short(n))),
+        Counted::Resend => Call::Resend(OrderNumber(arguments::short(n))),
+        Counted::Open => Call::OpenSession(SessionId(arguments::long(n))),
+    }
+}
+
+// The calls that take bytes, or none.
+fn with_bytes(name: &[u8], s: &[u8], memory: &mut Memory) -> Asked {
+    if check::same(name, b"reopen") {
+        return arguments::lent(
+            Action::Call(Call::Reopen),
+            asked::given(0),
+            s,
+            Fault::TooManyWords,
+        );
+    }
     if check::same(name, b"command") {
-        return command(s, &mut *given);
+        return command(s, &mut *memory);
     }
     if check::same(name, b"box") {
-        return arguments::lent_with_bytes(Action::Call(Call::BoxFrame), s, &mut *given);
+        return arguments::lent_with_bytes(Action::Call(Call::BoxFrame), s, &mut *memory);
     }
     if check::same(name, b"office") {
-        return arguments::lent_with_bytes(Action::Call(Call::OfficeFrame), s, &mut *given);
+        return arguments::lent_with_bytes(Action::Call(Call::OfficeFrame), s, &mut *memory);
     }
+    with_bytes_alone(name, s, &mut *memory)
+}
+
+fn with_bytes_alone(name: &[u8], s: &[u8], memory: &mut Memory) -> Asked {
     if check::same(name, b"bus") {
-        return arguments::with_bytes(Action::Bus(Heard::All), s, &mut *given);
+        let action = Action::Effect(Effect::Bus(Heard::All));
+        return arguments::with_bytes(action, s, &mut *memory);
     }
     if check::same(name, b"decode") {
-        return arguments::with_bytes(Action::Make(Made::Decoded), s, &mut *given);
+        let action = Action::Say(Said::Made(Made::Decoded));
+        return arguments::with_bytes(action, s, &mut *memory);
     }
-    with_access(name, s, &mut *given)
+    if check::same(name, b"encode") {
+        return encoding::encode(s, &mut *memory);
+    }
+    with_access(name, s, &mut *memory)
 }
 
 // The calls that say whether to write or to read.
-fn with_access(name: &[u8], s: &[u8], given: &mut Page) -> Asked {
+fn with_access(name: &[u8], s: &[u8], memory: &mut Memory) -> Asked {
     if check::same(name, b"packet") {
-        return packet(s, &mut *given);
+        return packet(s, &mut *memory);
     }
     if check::same(name, b"reply") {
-        return reply(s, &mut *given);
+        return reply(s, &mut *memory);
     }
     if check::same(name, b"exchange") {
-        return exchange(s, &mut *given);
-    }
-    if check::same(name, b"encode") {
-        return encoding::encode(s, &mut *given);
+        return exchange(s, &mut *memory);
     }
     without_bytes(name, s)
 }
 
 fn without_bytes(name: &[u8], s: &[u8]) -> Asked {
-    if check::same(name, b"show") {
-        return arguments::ended(Action::Tell(Told::Show), s);
-    }
-    if check::same(name, b"describe") {
-        return arguments::ended(Action::Tell(Told::Describe), s);
-    }
-    if check::same(name, b"word") {
-        return arguments::ended(Action::Tell(Told::Progress), s);
-    }
-    if check::same(name, b"fresh") {
-        return arguments::ended(Action::Fresh, s);
-    }
     if check::same(name, b"room") {
         return room(s);
     }
     if check::same(name, b"issue-many") {
         return many(s);
     }
-    of_registers(name, s)
+    match alone(name) {
+        Found::Of(action) => arguments::ended(action, s),
+        Found::Unknown => of_registers(name, s),
+    }
+}
+
+enum Found {
+    Of(Action),
+    Unknown,
+}
+
+fn alone(name: &[u8]) -> Found {
+    if check::same(name, b"show") {
+        return Found::Of(Action::Say(Said::Told(Told::Show)));
+    }
+    if check::same(name, b"describe") {
+        return Found::Of(Action::Say(Said::Told(Told::Describe)));
+    }
+    if check::same(name, b"word") {
+        return Found::Of(Action::Say(Said::Told(Told::Progress)));
+    }
+    if check::same(name, b"fresh") {
+        return Found::Of(Action::Effect(Effect::Fresh));
+    }
+    Found::Unknown
 }
 
 fn of_registers(name: &[u8], s: &[u8]) -> Asked {
@@ -141,70 +192,44 @@ fn restart(s: &[u8], opened: u32) -> Asked {
     if s.len() == 0 {
         return asked::plain(Action::Call(Call::Restart(SessionId(opened))));
     }
-    match arguments::long_of(text::word(s)) {
-        Long::Of(n) => arguments::ended(
-            Action::Call(Call::Restart(SessionId(n))),
-            text::after_word(s),
-        ),
-        Long::Wrong(fault) => asked::wrong(fault),
-    }
-}
-
-// open S
-fn open(s: &[u8]) -> Asked {
-    match arguments::long_of(text::word(s)) {
-        Long::Of(n) => arguments::call(Call::OpenSession(SessionId(n)), text::after_word(s)),
-        Long::Wrong(fault) => asked::wrong(fault),
-    }
-}
-
-// raise N
-fn raise(s: &[u8]) -> Asked {
-    match arguments::short_of(text::word(s)) {
-        Short::Of(n) => arguments::call(Call::Issue(Ask::Raise(n)), text::after_word(s)),
-        Short::Wrong(fault) => asked::wrong(fault),
-    }
-}
-
-// lower N
-fn lower(s: &[u8]) -> Asked {
-    match arguments::short_of(text::word(s)) {
-        Short::Of(n) => arguments::call(Call::Issue(Ask::Lower(n)), text::after_word(s)),
-        Short::Wrong(fault) => asked::wrong(fault),
-    }
-}
-
-// resend N
-fn resend(s: &[u8]) -> Asked {
-    match arguments::short_of(text::word(s)) {
-        Short::Of(n) => arguments::call(Call::Resend(OrderNumber(n)), text::after_word(s)),
-        Short::Wrong(fault) => asked::wrong(fault),
+    match arguments::number_of(text::word(s), u32::MAX as u64) {
+        Number::Of(n) => {
+            let action = Action::Call(Call::Restart(SessionId(arguments::long(n))));
+            arguments::ended(action, text::after_word(s))
+        }
+        Number::Wrong(fault) => asked::wrong(fault),
     }
 }
 
 // issue-many N
 fn many(s: &[u8]) -> Asked {
-    match arguments::short_of(text::word(s)) {
-        Short::Of(n) => arguments::ended(Action::Many(n), text::after_word(s)),
-        Short::Wrong(fault) => asked::wrong(fault),
+    match arguments::number_of(text::word(s), u16::MAX as u64) {
+        Number::Of(n) => arguments::ended(
+            Action::Effect(Effect::Many(arguments::short(n))),
+            text::after_word(s),
+        ),
+        Number::Wrong(fault) => asked::wrong(fault),
     }
 }
 
 // room N
 fn room(s: &[u8]) -> Asked {
-    match arguments::length_of(text::word(s), ROOM_LIMIT) {
-        Length::Of(n) => arguments::ended(Action::Room(n), text::after_word(s)),
-        Length::Wrong(fault) => asked::wrong(fault),
+    match arguments::number_of(text::word(s), ROOM_LIMIT as u64) {
+        Number::Of(n) => arguments::ended(
+            Action::Effect(Effect::Room(n as usize)),
+            text::after_word(s),
+        ),
+        Number::Wrong(fault) => asked::wrong(fault),
     }
 }
 
 // command BYTES
-fn command(s: &[u8], given: &mut Page) -> Asked {
+fn command(s: &[u8], memory: &mut Memory) -> Asked {
     match text::hex_byte(text::word(s)) {
         HexByte::Of(b) => arguments::lent_with_bytes(
             Action::Call(Call::Issue(Ask::Command(b))),
             text::after_word(s),
-            &mut *given,
+            &mut *memory,
         ),
         HexByte::NotHex => asked::wrong(Fault::NotBytes),
     }
@@ -226,46 +251,44 @@ fn way_of(word: &[u8]) -> Way {
 }
 
 // packet write ID BYTES, packet read ID BYTES
-fn packet(s: &[u8], given: &mut Page) -> Asked {
+fn packet(s: &[u8], memory: &mut Memory) -> Asked {
     match way_of(text::word(s)) {
-        Way::Of(access) => packet_of(access, text::after_word(s), &mut *given),
+        Way::Of(access) => packet_of(access, text::after_word(s), &mut *memory),
         Way::Unknown => asked::wrong(Fault::NotACall),
     }
 }
 
-fn packet_of(access: Access, s: &[u8], given: &mut Page) -> Asked {
+fn packet_of(access: Access, s: &[u8], memory: &mut Memory) -> Asked {
     match text::hex_byte(text::word(s)) {
         HexByte::Of(id) => arguments::lent_with_bytes(
-            Action::Make(Made::Packet(id, access)),
+            Action::Say(Said::Made(Made::Packet(id, access))),
             text::after_word(s),
-            &mut *given,
+            &mut *memory,
         ),
         HexByte::NotHex => asked::wrong(Fault::NotBytes),
     }
 }
 
 // reply write BYTES, reply read BYTES
-fn reply(s: &[u8], given: &mut Page) -> Asked {
+fn reply(s: &[u8], memory: &mut Memory) -> Asked {
     match way_of(text::word(s)) {
         Way::Of(access) => arguments::with_bytes(
-            Action::Make(Made::Reply(access)),
+            Action::Say(Said::Made(Made::Reply(access))),
             text::after_word(s),
-            &mut *given,
+            &mut *memory,
         ),
         Way::Unknown => asked::wrong(Fault::NotACall),
     }
 }
 
 // exchange write BYTES, exchange read BYTES
-fn exchange(s: &[u8], given: &mut Page) -> Asked {
+fn exchange(s: &[u8], memory: &mut Memory) -> Asked {
     match way_of(text::word(s)) {
-        Way::Of(access) => {
-            arguments::with_bytes(
-                Action::Bus(Heard::Reply(access)),
-                text::after_word(s),
-                &mut *given,
-            )
-        }
+        Way::Of(access) => arguments::with_bytes(
+            Action::Effect(Effect::Bus(Heard::Reply(access))),
+            text::after_word(s),
+            &mut *memory,
+        ),
         Way::Unknown => asked::wrong(Fault::NotACall),
     }
 }

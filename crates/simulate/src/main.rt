@@ -20,89 +20,69 @@ mod show;
 mod whole;
 mod world;
 
+use asked::Action;
+use buffers::Memory;
 use buffers::Output;
 use buffers::Page;
-use buffers::Slots;
 use libc::STDIN_FILENO;
-use world::Script;
+use world::Notes;
 use world::World;
-ghost use mathlib.Core.Path.{_≡_};
-ghost use Prim.Native.Nat.{_≤_, _-_};
 
 // A script's longest line.
 const LINE_LIMIT: usize = 4096;
 
 // More of the line that is being read.
-fn longer(script: Script, more: &[u8], line: &mut Page) -> Script {
-    let mut next = script;
-    let len = script.len;
+fn longer(notes: Notes, more: &[u8], line: &mut Page) -> Notes {
+    let mut next = notes;
+    let len = notes.len;
+    if notes.too_long {
+        return next;
+    }
     if LINE_LIMIT < len {
-        return script;
+        return next;
     }
     if LINE_LIMIT - len < more.len() {
         next.too_long = true;
+        next.len = 0;
         return next;
     }
     base::store(more, &mut *line, len);
-    let longer = len + more.len();
-    next.len = longer;
+    next.len = len + more.len();
     next
 }
 
-// A part of what was read, up to the end of a line or of what was read.
-fn piece(
-    world: World,
-    bytes: &[u8],
-    at: usize,
-    end: usize,
-    line: &mut Page,
-    given: &mut Page,
-    buffer: &mut Page,
-    slots: &mut Slots,
-    out: &mut Output,
-) -> World {
-    let script = longer(world.script, text::part(bytes, at, end), &mut *line);
-    if bytes.len() <= end {
-        let mut next = world;
-        next.script = script;
-        return next;
-    }
-    whole::ended(
-        world,
-        script,
-        line,
-        &mut *given,
-        &mut *buffer,
-        &mut *slots,
-        &mut *out,
-    )
-}
-
-// The bytes of one read.
+// The bytes of one read: each line that ends among them is done. A call changes both ends in place, since the whole world is
+// large.
 fn read(
     start: World,
     bytes: &[u8],
     line: &mut Page,
-    given: &mut Page,
-    buffer: &mut Page,
-    slots: &mut Slots,
+    memory: &mut Memory,
     out: &mut Output,
 ) -> World {
     let mut world = start;
     let mut at: usize = 0;
     while at < bytes.len() {
         let end = text::find(bytes, at, b'\n');
-        world = piece(
-            world,
-            bytes,
-            at,
-            end,
-            &mut *line,
-            &mut *given,
-            &mut *buffer,
-            &mut *slots,
-            &mut *out,
-        );
+        let notes = longer(world.notes, text::part(bytes, at, end), &mut *line);
+        world.notes = notes;
+        if bytes.len() <= end {
+            return world;
+        }
+        let begun = whole::begun(notes, line, out);
+        let asked = whole::asked(begun, line, &mut *memory);
+        let action = asked.action;
+        world.notes = begun;
+        if let Action::Call(call) = action {
+            let done = ends::call(world.ends, begun, call, asked, &mut *memory, &mut *out);
+            let after = done.ends;
+            world.ends = after;
+            let told = done.notes;
+            world.notes = told;
+        } else {
+            world = perform::perform(world, asked, memory, &mut *out);
+        }
+        world.notes = whole::ended(world.notes, line, &mut *out);
         let next = std::num::wrapping_add_usize(end, 1);
         // never so: the test shows that the loop ends
         if next <= at {
@@ -113,78 +93,45 @@ fn read(
     world
 }
 
+// The input has ended. A last line may have no newline behind it.
+fn finish(world: World, line: &mut Page, memory: &mut Memory, out: &mut Output) -> World {
+    let mut end = read(world, b"\n", &mut *line, &mut *memory, &mut *out);
+    let at = whole::tally(end.notes, &mut *out);
+    print::flush(out, at);
+    end.notes.over = true;
+    end
+}
+
 // One read. What it prints is written before the next one, so that whoever types sees each answer at once.
-fn turn(
-    world: World,
-    line: &mut Page,
-    given: &mut Page,
-    buffer: &mut Page,
-    slots: &mut Slots,
-    out: &mut Output,
-) -> World
-    ensures { λ r. ⌜ r .script .turns ≤ world .script .turns - 1 ⌝ }
-{
-    let turns = world.script.turns;
+fn turn(world: World, line: &mut Page, memory: &mut Memory, out: &mut Output) -> World {
     let mut input = io::large_buffer();
     let got = libc::read(STDIN_FILENO, &mut input);
     let n = io::count(got, &input);
     if n == 0 {
-        whole::finish(
-            world,
-            line,
-            &mut *given,
-            &mut *buffer,
-            &mut *slots,
-            &mut *out,
-        );
-        return counted(world, 0);
+        return finish(world, &mut *line, &mut *memory, &mut *out);
     }
-    let next = read(
-        world,
-        &input[..n],
-        &mut *line,
-        &mut *given,
-        &mut *buffer,
-        &mut *slots,
-        &mut *out,
-    );
-    let written = print::flush(out, next.notes.gathered);
-    counted(world::with_gathered(next, written), turns)
-}
-
-// One turn less than before.
-fn counted(world: World, before: u64) -> World
-    ensures { λ r. ⌜ r .script .turns ≡ before - 1 ⌝ }
-{
-    let mut next = world;
-    if before == 0 {
-        next.script.turns = 0;
-        return next;
-    }
-    let left = before - 1;
-    next.script.turns = left;
+    let mut next = read(world, &input[..n], &mut *line, &mut *memory, &mut *out);
+    let gathered = print::flush(out, next.notes.gathered);
+    next.notes.gathered = gathered;
     next
 }
 
-fn play(line: &mut Page, given: &mut Page, buffer: &mut Page, slots: &mut Slots, out: &mut Output) {
+// A proved loop has to end, and an input need not. So the reads are counted down, from a number that no run uses up.
+fn play(line: &mut Page, memory: &mut Memory, out: &mut Output) {
     let mut world = world::first();
-    while 0 < world.script.turns {
-        world = turn(
-            world,
-            &mut *line,
-            &mut *given,
-            &mut *buffer,
-            &mut *slots,
-            &mut *out,
-        );
+    let mut reads = u64::MAX;
+    while 0 < reads {
+        reads -= 1;
+        world = turn(world, &mut *line, &mut *memory, &mut *out);
+        if world.notes.over {
+            return;
+        }
     }
 }
 
 fn main() {
     let mut line = io::buffer();
-    let mut given = io::buffer();
-    let mut buffer = io::buffer();
-    let mut slots = frames::none_kept();
+    let mut memory = frames::none_kept();
     let mut out = io::large_buffer();
-    play(&mut line, &mut given, &mut buffer, &mut slots, &mut out);
+    play(&mut line, &mut memory, &mut out);
 }

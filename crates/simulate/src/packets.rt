@@ -1,7 +1,6 @@
 // The packet writer and the reply reader.
 use crate::asked::Lent;
 use crate::buffers::Output;
-use crate::buffers::Page;
 use crate::lending;
 use crate::print;
 use packet::Access;
@@ -18,35 +17,23 @@ pub(crate) fn packet(
     access: Access,
     lent: Lent,
     bytes: &[u8],
-    buffer: &mut Page,
 ) -> usize {
     let n = lending::length(lent, PACKET_LIMIT);
-    match written(id, access, lent, bytes, n, &mut *buffer) {
+    let mut page = lending::untouched();
+    match written(id, access, bytes, n, &mut page) {
         Written::Length(len) => {
-            let said = told(&mut *out, at, lent, text::part(buffer, 0, len));
-            lending::told(&mut *out, said, lent, text::part(buffer, len, n))
+            let said = told(&mut *out, at, lent, text::part(&page, 0, len));
+            lending::told(&mut *out, said, lent, text::part(&page, len, n))
         }
         Written::Refused(r) => {
             let said = print::refused(&mut *out, at, r.number());
-            lending::told(&mut *out, said, lent, text::part(buffer, 0, n))
+            lending::told(&mut *out, said, lent, text::part(&page, 0, n))
         }
     }
 }
 
-fn written(
-    id: u8,
-    access: Access,
-    lent: Lent,
-    bytes: &[u8],
-    n: usize,
-    buffer: &mut Page,
-) -> Written {
-    lending::prepare(lent, &mut *buffer);
-    written_lent(id, access, bytes, n, buffer)
-}
-
-// A packet written to n bytes of a page.
-fn written_lent(id: u8, access: Access, bytes: &[u8], n: usize, page: &mut [u8]) -> Written {
+// A packet written to n bytes.
+fn written(id: u8, access: Access, bytes: &[u8], n: usize, page: &mut [u8]) -> Written {
     if page.len() < n {
         return packet::write(id, access, bytes, &mut *page);
     }

@@ -1,13 +1,17 @@
-// What a line asks for is done, and its answer printed.
+// What a line asks for is done, and its answer printed. The calls at box and office are in ends.
+use crate::asked;
 use crate::asked::Action;
 use crate::asked::Asked;
+use crate::asked::Effect;
+use crate::asked::Heard;
 use crate::asked::Holder;
 use crate::asked::Lent;
 use crate::asked::Made;
+use crate::asked::Said;
 use crate::asked::Told;
 use crate::bench;
+use crate::buffers::Memory;
 use crate::buffers::Output;
-use crate::buffers::Page;
 use crate::describe;
 use crate::encoding;
 use crate::ends;
@@ -16,47 +20,80 @@ use crate::packets;
 use crate::print;
 use crate::show;
 use crate::world;
+use crate::world::Notes;
 use crate::world::World;
 use settings::Settings;
 
-// All but the calls at box and office, which have a way of their own.
-pub(crate) fn perform(
-    world: World,
-    asked: Asked,
-    given: &Page,
-    buffer: &mut Page,
-    out: &mut Output,
-) -> World {
+pub(crate) fn perform(world: World, asked: Asked, memory: &Memory, out: &mut Output) -> World {
     let action = asked.action;
-    let lent = asked.lent;
-    let bytes = text::part(given, 0, asked.len);
-    let at = world.notes.gathered;
+    let bytes = asked::bytes(memory, asked.bytes);
     match action {
-        Action::Nothing => world,
         Action::Call(_) => world,
-        Action::Wrong(fault) => {
-            let line = world.script.line;
-            world::with_gathered(world, print::wrong(&mut *out, at, line, fault))
-        }
-        Action::Many(n) => ends::many(world, n, &mut *out),
-        Action::Room(n) => room(world, n, &mut *out),
-        Action::Fresh => world::fresh(print::ok(&mut *out, at), world.script),
-        Action::Bus(heard) => bench::bus(world, heard, bytes, &mut *out),
-        Action::Tell(told) => world::with_gathered(world, tell(&mut *out, world, told)),
-        Action::Make(made) => {
-            let end = make(&mut *out, at, made, lent, bytes, &mut *buffer);
-            world::with_gathered(world, end)
+        Action::Effect(effect) => changed(world, effect, bytes, &mut *out),
+        Action::Say(said) => {
+            let lent = asked.lent;
+            let at = say(&mut *out, world, said, lent, bytes);
+            gathered(world, at)
         }
     }
+}
+
+fn gathered(world: World, at: usize) -> World {
+    let mut next = world;
+    next.notes.gathered = at;
+    next
+}
+
+fn changed(world: World, effect: Effect, bytes: &[u8], out: &mut Output) -> World {
+    match effect {
+        Effect::Many(n) => many(world, n, &mut *out),
+        Effect::Room(n) => room(world, n, &mut *out),
+        Effect::Fresh => world::fresh(world::unwritten(ok(world.notes, &mut *out))),
+        Effect::Bus(heard) => bus(world, heard, bytes, &mut *out),
+    }
+}
+
+fn ok(notes: Notes, out: &mut Output) -> Notes {
+    let mut next = notes;
+    next.gathered = print::ok(&mut *out, notes.gathered);
+    next
+}
+
+// issue-many N
+fn many(world: World, n: u16, out: &mut Output) -> World {
+    let mut next = world;
+    next.ends = ends::many(world.ends, n);
+    next.notes = ok(world.notes, &mut *out);
+    next
 }
 
 // room N
 fn room(world: World, n: usize, out: &mut Output) -> World {
     let mut next = world;
+    next.notes = ok(world.notes, &mut *out);
     next.notes.room = n;
-    let at = print::ok(&mut *out, world.notes.gathered);
+    next
+}
+
+// bus BYTES, exchange write BYTES, exchange read BYTES
+fn bus(world: World, heard: Heard, bytes: &[u8], out: &mut Output) -> World {
+    let mut next = world;
+    let mut sent = io::buffer();
+    next.bench = controller::exchange_all(world.bench, bytes, &mut sent);
+    let heard_bytes = text::part(&sent, 0, bytes.len());
+    let at = bench::told(&mut *out, world.notes.gathered, heard, heard_bytes);
     next.notes.gathered = at;
     next
+}
+
+fn say(out: &mut Output, world: World, said: Said, lent: Lent, bytes: &[u8]) -> usize {
+    let at = world.notes.gathered;
+    match said {
+        Said::Nothing => at,
+        Said::Wrong(fault) => print::wrong(&mut *out, at, world.notes.line, fault),
+        Said::Told(told) => tell(&mut *out, world, told),
+        Said::Made(made) => make(&mut *out, at, made, lent, bytes),
+    }
 }
 
 fn tell(out: &mut Output, world: World, told: Told) -> usize {
@@ -83,18 +120,9 @@ fn settings_of(world: World, holder: Holder) -> Settings {
     }
 }
 
-fn make(
-    out: &mut Output,
-    at: usize,
-    made: Made,
-    lent: Lent,
-    bytes: &[u8],
-    buffer: &mut Page,
-) -> usize {
+fn make(out: &mut Output, at: usize, made: Made, lent: Lent, bytes: &[u8]) -> usize {
     match made {
-        Made::Packet(id, access) => {
-            packets::packet(&mut *out, at, id, access, lent, bytes, &mut *buffer)
-        }
+        Made::Packet(id, access) => packets::packet(&mut *out, at, id, access, lent, bytes),
         Made::Reply(access) => {
             let said = packets::reply(&mut *out, at, access, bytes);
             print::end_line(&mut *out, said)

@@ -6,6 +6,7 @@ use crate::asked::Asked;
 use crate::asked::Fault;
 use crate::asked::Holder;
 use crate::asked::Register;
+use crate::asked::Said;
 use crate::asked::Switch;
 use crate::asked::Told;
 
@@ -18,7 +19,7 @@ enum Found {
 pub(crate) fn held(holder: Holder, s: &[u8]) -> Asked {
     match named(text::word(s)) {
         Found::Of(register) => arguments::ended(
-            Action::Tell(Told::Held(holder, register)),
+            Action::Say(Said::Told(Told::Held(holder, register))),
             text::after_word(s),
         ),
         Found::Unknown => asked::wrong(Fault::NoSuchRegister),

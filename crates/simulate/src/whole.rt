@@ -1,16 +1,13 @@
-// A line that is whole: its call is made, and its answer compared with the one that it expects.
-use crate::asked::Action;
+// A line that is whole: what it asks for, and whether its answer is the one that it expects.
+use crate::asked;
 use crate::asked::Asked;
 use crate::asked::Fault;
+use crate::buffers::Memory;
 use crate::buffers::Output;
 use crate::buffers::Page;
-use crate::buffers::Slots;
-use crate::ends;
 use crate::lines;
-use crate::perform;
 use crate::print;
-use crate::world::Script;
-use crate::world::World;
+use crate::world::Notes;
 
 // More than any answer takes, and what it should have been.
 const ANSWER_LIMIT: usize = 16384;
@@ -26,6 +23,41 @@ fn arrow(s: &[u8]) -> usize {
         return from;
     }
     s.len()
+}
+
+// The line has ended: what stands behind `#` is no part of it.
+pub(crate) fn begun(notes: Notes, line: &Page, out: &Output) -> Notes {
+    let mut next = notes;
+    let at = print::with_room(out, notes.gathered, ANSWER_LIMIT);
+    next.gathered = at;
+    next.answer = at;
+    next.line = std::num::wrapping_add_u64(notes.line, 1);
+    let len = text::find(text::part(line, 0, notes.len), 0, b'#');
+    next.len = len;
+    next.arrow = arrow(text::part(line, 0, len));
+    next
+}
+
+pub(crate) fn asked(notes: Notes, line: &Page, memory: &mut Memory) -> Asked {
+    if notes.too_long {
+        return asked::wrong(Fault::TooLong);
+    }
+    let call = text::skip_spaces(text::part(line, 0, notes.arrow));
+    lines::read(call, notes, &mut *memory)
+}
+
+// The line is done, and the next one begins.
+pub(crate) fn ended(notes: Notes, line: &Page, out: &mut Output) -> Notes {
+    let mut next = notes;
+    let len = notes.len;
+    next.len = 0;
+    next.too_long = false;
+    let arrow = notes.arrow;
+    if len <= arrow {
+        return next;
+    }
+    let expected = text::part(line, std::num::wrapping_add_usize(arrow, 3), len);
+    compared(next, trimmed(expected), &mut *out)
 }
 
 fn end_of_text(s: &[u8]) -> usize {
@@ -45,201 +77,26 @@ fn trimmed(s: &[u8]) -> &[u8] {
     text::part(t, 0, end_of_text(t))
 }
 
-// The line in the buffer is whole: what it asks for is done, and the next line begins. The script as it stands is given
-// beside the world, which is large, so that the world is not copied for it.
-pub(crate) fn ended(
-    world: World,
-    script: Script,
-    line: &Page,
-    given: &mut Page,
-    buffer: &mut Page,
-    slots: &mut Slots,
-    out: &mut Output,
-) -> World {
-    let number = std::num::wrapping_add_u64(script.line, 1);
-    let start = print::with_room(out, world.notes.gathered, ANSWER_LIMIT);
-    let next = begun(script, number);
-    if script.too_long {
-        let at = print::wrong(&mut *out, start, number, Fault::TooLong);
-        return at_line(world, next, at);
-    }
-    run(
-        world,
-        next,
-        start,
-        text::part(line, 0, script.len),
-        &mut *given,
-        &mut *buffer,
-        &mut *slots,
-        &mut *out,
-    )
-}
-
-// The next line begins.
-fn begun(script: Script, number: u64) -> Script {
-    let mut next = script;
-    next.line = number;
-    next.len = 0;
-    next.too_long = false;
-    next
-}
-
-fn at_line(world: World, script: Script, gathered: usize) -> World {
-    let mut next = world;
-    next.script = script;
-    next.notes.gathered = gathered;
-    next
-}
-
-// A line: a call, or nothing but a comment.
-fn run(
-    world: World,
-    script: Script,
-    start: usize,
-    s: &[u8],
-    given: &mut Page,
-    buffer: &mut Page,
-    slots: &mut Slots,
-    out: &mut Output,
-) -> World {
-    let words = text::part(s, 0, text::find(s, 0, b'#'));
-    let end = arrow(words);
-    let call = text::skip_spaces(text::part(words, 0, end));
-    let asked = lines::read(call, world.notes, slots, &mut *given);
-    if words.len() <= end {
-        return done(
-            world,
-            script,
-            start,
-            asked,
-            given,
-            &mut *buffer,
-            &mut *slots,
-            &mut *out,
-        );
-    }
-    let after = done(
-        world,
-        script,
-        start,
-        asked,
-        given,
-        &mut *buffer,
-        &mut *slots,
-        &mut *out,
-    );
-    compared(after, start, expected(words, end), &mut *out)
-}
-
-fn done(
-    world: World,
-    script: Script,
-    start: usize,
-    asked: Asked,
-    given: &Page,
-    buffer: &mut Page,
-    slots: &mut Slots,
-    out: &mut Output,
-) -> World {
-    let action = asked.action;
-    let lent = asked.lent;
-    if let Action::Call(call) = action {
-        return ends::call(
-            world,
-            script,
-            start,
-            call,
-            lent,
-            text::part(given, 0, asked.len),
-            &mut *buffer,
-            &mut *slots,
-            &mut *out,
-        );
-    }
-    let begun = at_line(world, script, start);
-    perform::perform(begun, asked, given, &mut *buffer, &mut *out)
-}
-
-// What a line expects, where ` ->` stands at end.
-fn expected(words: &[u8], end: usize) -> &[u8] {
-    trimmed(number::rest(words, std::num::wrapping_add_usize(end, 3)))
-}
-
-// The answer stands from start on, and a newline behind it.
-fn compared(world: World, start: usize, expected: &[u8], out: &mut Output) -> World {
-    let at = world.notes.gathered;
-    let mut next = world;
+// The answer ends in a newline.
+fn compared(notes: Notes, expected: &[u8], out: &mut Output) -> Notes {
+    let at = notes.gathered;
+    let mut next = notes;
     let end = std::num::wrapping_sub_usize(at, 1);
-    if check::same(text::part(out, start, end), expected) {
-        let same = std::num::wrapping_add_u64(world.script.same, 1);
-        next.script.same = same;
+    if check::same(text::part(out, notes.answer, end), expected) {
+        next.same = std::num::wrapping_add_u64(notes.same, 1);
         return next;
     }
-    let other = std::num::wrapping_add_u64(world.script.other, 1);
-    let told = print::expected(&mut *out, at, world.script.line, expected);
-    next.notes.gathered = told;
-    next.script.other = other;
+    next.other = std::num::wrapping_add_u64(notes.other, 1);
+    next.gathered = print::expected(&mut *out, at, notes.line, expected);
     next
 }
 
-// A last line may have no newline behind it.
-fn last(
-    world: World,
-    line: &Page,
-    given: &mut Page,
-    buffer: &mut Page,
-    slots: &mut Slots,
-    out: &mut Output,
-) -> World {
-    let script = world.script;
-    if !script.too_long {
-        if script.len == 0 {
-            return world;
-        }
+// What is said at the end of a script that expects answers.
+pub(crate) fn tally(notes: Notes, out: &mut Output) -> usize {
+    let at = notes.gathered;
+    let n = [notes.same, notes.other];
+    if std::num::wrapping_add_u64(notes.same, notes.other) == 0 {
+        return at;
     }
-    ended(
-        world,
-        script,
-        line,
-        &mut *given,
-        &mut *buffer,
-        &mut *slots,
-        &mut *out,
-    )
-}
-
-// The input has ended.
-pub(crate) fn finish(
-    world: World,
-    line: &Page,
-    given: &mut Page,
-    buffer: &mut Page,
-    slots: &mut Slots,
-    out: &mut Output,
-) {
-    let end = last(
-        world,
-        line,
-        &mut *given,
-        &mut *buffer,
-        &mut *slots,
-        &mut *out,
-    );
-    let at = tally(
-        &mut *out,
-        end.notes.gathered,
-        end.script.same,
-        end.script.other,
-    );
-    print::flush(out, at);
-}
-
-fn tally(out: &mut Output, at: usize, same: u64, other: u64) -> usize {
-    if same == 0 {
-        if other == 0 {
-            return at;
-        }
-    }
-    let n = [same, other];
     print::with(&mut *out, at, b"_ answers as expected, _ not\n", &n)
 }

@@ -7,25 +7,26 @@ use session::Ends;
 // The longest output that `room` lends.
 pub(crate) const ROOM_LIMIT: usize = 512;
 
-// How many frames each end has written, the highest session opened at the box, how long an output the calls are lent, and
-// how much of what is printed is gathered and not written yet.
 pub(crate) struct Notes {
+    // How many frames each end has written, and the highest session opened at the box.
     pub box_frames: u64,
     pub office_frames: u64,
     pub opened: u32,
+    // How long an output the calls are lent.
     pub room: usize,
+    // How much of what is printed is gathered and not written yet, and where the answer to this line begins.
     pub gathered: usize,
-}
-
-// The lines read so far, how much of the next one stands in its buffer, unless it is too long, how many answers were as
-// expected and how many not, and how many reads may follow.
-pub(crate) struct Script {
+    pub answer: usize,
+    // The lines that have ended. Of the next one, len bytes stand in its buffer, unless it is too long; in one that has ended, ` ->` stands at arrow, or at len.
     pub line: u64,
     pub len: usize,
     pub too_long: bool,
+    pub arrow: usize,
+    // The input has ended.
+    pub over: bool,
+    // How many answers were as expected, and how many not.
     pub same: u64,
     pub other: u64,
-    pub turns: u64,
 }
 
 // Both ends of the link, and the controller on the bench.
@@ -33,45 +34,44 @@ pub(crate) struct World {
     pub ends: Ends,
     pub bench: Controller,
     pub notes: Notes,
-    pub script: Script,
 }
 
-// Everything as at the start, but for the script.
-pub(crate) fn fresh(gathered: usize, script: Script) -> World {
+// Both ends and the bench as at the start.
+pub(crate) fn fresh(notes: Notes) -> World {
     World {
         ends: Ends {
             cab: cabbox::restart(SessionId(0)),
             office: office::new(),
         },
         bench: Controller::fresh(),
-        notes: Notes {
-            box_frames: 0,
-            office_frames: 0,
-            opened: 0,
-            room: FRAME_LIMIT,
-            gathered,
-        },
-        script,
+        notes,
     }
 }
 
-// A proved loop has to end, and an input need not. So the reads are counted down, from a number that no run uses up.
 pub(crate) fn first() -> World {
-    fresh(
-        0,
-        Script {
-            line: 0,
-            len: 0,
-            too_long: false,
-            same: 0,
-            other: 0,
-            turns: u64::MAX,
-        },
-    )
+    fresh(Notes {
+        box_frames: 0,
+        office_frames: 0,
+        opened: 0,
+        room: FRAME_LIMIT,
+        gathered: 0,
+        answer: 0,
+        line: 0,
+        len: 0,
+        too_long: false,
+        arrow: 0,
+        over: false,
+        same: 0,
+        other: 0,
+    })
 }
 
-pub(crate) fn with_gathered(world: World, gathered: usize) -> World {
-    let mut next = world;
-    next.notes.gathered = gathered;
+// No frame written and no session opened.
+pub(crate) fn unwritten(notes: Notes) -> Notes {
+    let mut next = notes;
+    next.box_frames = 0;
+    next.office_frames = 0;
+    next.opened = 0;
+    next.room = FRAME_LIMIT;
     next
 }

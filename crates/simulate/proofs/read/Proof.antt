@@ -4,10 +4,10 @@ use Rattle.simulate.proofs.read.Statement.{statement}
 use Rattle.simulate.proofs.read.Tie as tie
 
 abbrev Inv-loop : tie.InvT-loop
-Inv-loop bytes line₀ given₀ buffer₀ slots₀ out₀ world₀ at₀ line given buffer slots out world at = Unit {0}
+Inv-loop bytes line₀ memory₀ out₀ world₀ at₀ line memory out world at = Unit {0}
 
 abbrev μ-loop : tie.MeasureT-loop
-μ-loop bytes line₀ given₀ buffer₀ slots₀ out₀ world₀ at₀ line given buffer slots out world at = 18446744073709551616 - at
+μ-loop bytes line₀ memory₀ out₀ world₀ at₀ line memory out world at = 18446744073709551616 - at
 
 loop-holds : tie.Need-loop-holds Inv-loop μ-loop
 loop-holds c = search needs
@@ -15,14 +15,38 @@ loop-holds c = search needs
 find-requires : tie.Need-find-requires Inv-loop μ-loop
 find-requires c κs = search needs
 
-piece-requires : tie.Need-piece-requires Inv-loop μ-loop
-piece-requires c κs = search needs
+part-requires : tie.Need-part-requires Inv-loop μ-loop
+part-requires c κs = search needs
+
+longer-requires : tie.Need-longer-requires Inv-loop μ-loop
+longer-requires c κs = search needs
+
+returns : tie.Need-returns Inv-loop μ-loop
+returns c = search needs
+
+begun-requires : tie.Need-begun-requires Inv-loop μ-loop
+begun-requires c κs = search needs
+
+asked-requires : tie.Need-asked-requires Inv-loop μ-loop
+asked-requires c κs = search needs
+
+enum-known-action : tie.Need-enum-known-action Inv-loop μ-loop
+enum-known-action c = search needs
+
+call-requires : tie.Need-call-requires Inv-loop μ-loop
+call-requires c κs = search needs
+
+perform-requires : tie.Need-perform-requires Inv-loop μ-loop
+perform-requires c κs = search needs
+
+ended-requires : tie.Need-ended-requires Inv-loop μ-loop
+ended-requires c κs = search needs
 
 wrapping-add-usize-requires : tie.Need-wrapping-add-usize-requires Inv-loop μ-loop
 wrapping-add-usize-requires c κs = search needs
 
-returns : tie.Need-returns Inv-loop μ-loop
-returns c = search needs
+returns-2 : tie.Need-returns-2 Inv-loop μ-loop
+returns-2 c = search needs
 
 loop-less : tie.Need-loop-less Inv-loop μ-loop
 loop-less c = search needs
@@ -30,8 +54,8 @@ loop-less c = search needs
 loop-again : tie.Need-loop-again Inv-loop μ-loop
 loop-again c = search needs
 
-returns-2 : tie.Need-returns-2 Inv-loop μ-loop
-returns-2 c = search needs
+returns-3 : tie.Need-returns-3 Inv-loop μ-loop
+returns-3 c = search needs
 
 pub read-spec : {M : Type 1} → statement M
 read-spec =
@@ -41,9 +65,17 @@ read-spec =
     μ-loop
     loop-holds
     find-requires
-    piece-requires
-    wrapping-add-usize-requires
+    part-requires
+    longer-requires
     returns
+    begun-requires
+    asked-requires
+    enum-known-action
+    call-requires
+    perform-requires
+    ended-requires
+    wrapping-add-usize-requires
+    returns-2
     loop-less
     loop-again
-    returns-2)
+    returns-3)

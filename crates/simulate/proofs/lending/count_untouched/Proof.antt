@@ -1,8 +1,8 @@
 use lib.ListN.{length}
 use Prim.Native.Nat.{_-_, _≤_}
 use borrow.Author.Needs.{needs}
-use Rattle.simulate.proofs.lending.untouched.Statement.{statement}
-use Rattle.simulate.proofs.lending.untouched.Tie as tie
+use Rattle.simulate.proofs.lending.count_untouched.Statement.{statement}
+use Rattle.simulate.proofs.lending.count_untouched.Tie as tie
 
 abbrev Inv-loop : tie.InvT-loop
 Inv-loop s n₀ i₀ n i = i ≤ length s
@@ -34,8 +34,8 @@ loop-again c = search needs
 returns : tie.Need-returns Inv-loop μ-loop
 returns c = search needs
 
-pub untouched-spec : {M : Type 1} → statement M
-untouched-spec =
+pub count-untouched-spec : {M : Type 1} → statement M
+count-untouched-spec =
     tie.close
     (tie.spec
     Inv-loop

@@ -1,7 +1,7 @@
 use Prim.Native.Nat.{_-_, _≤_}
 use borrow.Author.Needs.{needs}
-use Rattle.simulate.proofs.ends.many_times.Statement.{statement}
-use Rattle.simulate.proofs.ends.many_times.Tie as tie
+use Rattle.simulate.proofs.ends.many.Statement.{statement}
+use Rattle.simulate.proofs.ends.many.Tie as tie
 
 abbrev Inv-loop : tie.InvT-loop
 Inv-loop n ends₀ i₀ ends i = i ≤ n
@@ -30,8 +30,8 @@ loop-again c = search needs
 returns : tie.Need-returns Inv-loop μ-loop
 returns c = search needs
 
-pub many-times-spec : {M : Type 1} → statement M
-many-times-spec =
+pub many-spec : {M : Type 1} → statement M
+many-spec =
     tie.close
     (tie.spec
     Inv-loop
