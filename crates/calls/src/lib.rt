@@ -6,6 +6,7 @@ use frame::Verdict;
 use receiving::Received;
 use session::Cab;
 use session::Ends;
+use session::Office;
 ghost use mathlib.Core.Path.{_≡_};
 ghost use lib.ListN.{length};
 ghost use Rattle.session.specs.Calls.{ends-rules};
@@ -28,54 +29,35 @@ pub struct Answered {
     pub len: usize,
 }
 
-fn restarted(ends: Ends, cab: Cab) -> Answered
-    ensures { λ r. ⌜ r ≡ view.answered cab (ends .office) Verdict.Accepted 0 ⌝ }
+fn after(cab: Cab, office: Office, verdict: Verdict, len: usize) -> Answered
+    ensures { λ r. ⌜ r ≡ view.answered cab office verdict len ⌝ }
 {
-    let office = ends.office;
-    Answered {
-        ends: Ends { cab, office },
-        verdict: Verdict::Accepted,
-        len: 0,
-    }
-}
-
-fn at_cab(ends: Ends, done: cabbox::Answered) -> Answered
-    ensures { λ r. ⌜ r ≡ view.answered (done .cab) (ends .office) (done .verdict) (done .len) ⌝ }
-{
-    let cab = done.cab;
-    let office = ends.office;
-    let verdict = done.verdict;
     Answered {
         ends: Ends { cab, office },
         verdict,
-        len: done.len,
+        len,
     }
 }
 
-fn at_office(ends: Ends, done: office::Answered) -> Answered
-    ensures { λ r. ⌜ r ≡ view.answered (ends .cab) (done .office) (done .verdict) (done .len) ⌝ }
+fn at_cab(office: Office, done: cabbox::Answered) -> Answered
+    ensures { λ r. ⌜ r ≡ view.answered (done .cab) office (done .verdict) (done .len) ⌝ }
 {
-    let cab = ends.cab;
-    let office = done.office;
     let verdict = done.verdict;
-    Answered {
-        ends: Ends { cab, office },
-        verdict,
-        len: done.len,
-    }
+    after(done.cab, office, verdict, done.len)
 }
 
-fn taken(ends: Ends, done: Received) -> Answered
-    ensures { λ r. ⌜ r ≡ view.answered (ends .cab) (done .office) (done .verdict) 0 ⌝ }
+fn at_office(cab: Cab, done: office::Answered) -> Answered
+    ensures { λ r. ⌜ r ≡ view.answered cab (done .office) (done .verdict) (done .len) ⌝ }
 {
-    let cab = ends.cab;
-    let office = done.office;
     let verdict = done.verdict;
-    Answered {
-        ends: Ends { cab, office },
-        verdict,
-        len: 0,
-    }
+    after(cab, done.office, verdict, done.len)
+}
+
+fn taken(cab: Cab, done: Received) -> Answered
+    ensures { λ r. ⌜ r ≡ view.answered cab (done .office) (done .verdict) 0 ⌝ }
+{
+    let verdict = done.verdict;
+    after(cab, done.office, verdict, 0)
 }
 
 // The bytes are a frame in, or a command's data; other calls do not look at them. A restart and a frame to the office leave out as it is.
@@ -83,15 +65,20 @@ pub fn run(ends: Ends, call: Call, bytes: &[u8], out: &mut [u8]) -> Answered
     ensures { λ r. ⌜ view.Runs (ends-rules ends (view.call-of call (now (bytes .entry)) (length (now (out .entry))))) r (now (out .entry)) (now (out .exit)) ⌝ }
 {
     match call {
-        Call::Restart(session) => restarted(ends, cabbox::restart(session)),
-        Call::BoxFrame => at_cab(ends, cabbox::frame_in(ends.cab, bytes, &mut *out)),
+        Call::Restart(session) => after(
+            cabbox::restart(session),
+            ends.office,
+            Verdict::Accepted,
+            0,
+        ),
+        Call::BoxFrame => at_cab(ends.office, cabbox::frame_in(ends.cab, bytes, &mut *out)),
         Call::OpenSession(session) => at_office(
-            ends,
+            ends.cab,
             office::open(ends.office, session, &mut *out),
         ),
-        Call::Issue(ask) => at_office(ends, office::issue(ends.office, ask, bytes, &mut *out)),
-        Call::Resend(number) => at_office(ends, office::resend(ends.office, number, &mut *out)),
-        Call::Reopen => at_office(ends, office::reopen(ends.office, &mut *out)),
-        Call::OfficeFrame => taken(ends, receiving::frame_in(ends.office, bytes)),
+        Call::Issue(ask) => at_office(ends.cab, office::issue(ends.office, ask, bytes, &mut *out)),
+        Call::Resend(number) => at_office(ends.cab, office::resend(ends.office, number, &mut *out)),
+        Call::Reopen => at_office(ends.cab, office::reopen(ends.office, &mut *out)),
+        Call::OfficeFrame => taken(ends.cab, receiving::frame_in(ends.office, bytes)),
     }
 }
