@@ -8,12 +8,8 @@ use lib.ListN.{length, drop, replicate, length-append}
 use lib.Seq.{take-append-seam, sets}
 use Rattle.base.proofs.Lists.{sets-append, sets-next, sets-front}
 use Rattle.link.specs.declared.encoded.Encoded.{Encoded}
-use Rattle.frame.specs.declared.frame.Frame.{Frame as FrameStruct}
-use Rattle.frame.specs.Frame.{data-limit}
 use Rattle.link.specs.Steps.{pushed}
-use Rattle.frame.specs.View.{meaning}
-use Rattle.link.specs.View.{frame-limit, encoding-of, bytes-of, encoded}
-use Rattle.link.proofs.FrameLaws.{meaning-length}
+use Rattle.link.specs.View.{frame-limit, bytes-of, encoded}
 
 pub pushed-append : (e : Encoded) (xs ys : List ℕ) → pushed (pushed e xs) ys ≡ pushed e (xs ++ ys)
 unfolding pushed
@@ -36,6 +32,5 @@ pub bytes-of-encoded : (l : List ℕ) → bytes-of (encoded l) ≡ l
 bytes-of-encoded l = take-append-seam l (drop (length l) (replicate frame-limit 0))
 
 -- encode's three clauses from the first
-pub whole-encoded : (f : FrameStruct) (r : Encoded) → length (f .change .body) ≡ data-limit → r ≡ encoded (encoding-of (meaning f)) →
-    (r ≡ encoded (encoding-of (meaning f))) × ((bytes-of r ≡ encoding-of (meaning f)) × (r .len ≤ frame-limit))
-whole-encoded f r long whole = (whole, (rw whole (bytes-of-encoded (encoding-of (meaning f))), rw whole (meaning-length f long)))
+pub whole-encoded : (l : List ℕ) (r : Encoded) → length l ≤ frame-limit → r ≡ encoded l → (r ≡ encoded l) × ((bytes-of r ≡ l) × (r .len ≤ frame-limit))
+whole-encoded l r short whole = (whole, (rw whole (bytes-of-encoded l), rw whole short))

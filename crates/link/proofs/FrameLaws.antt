@@ -2,10 +2,11 @@
 use Prim.Native.Nat.{ℕ, _+_, _≤_}
 use native.Mathlib.Nat.{min-le-right}
 use native.Mathlib.Omega.{arith}
-use mathlib.Core.Path.{_≡_, refl}
+use mathlib.Core.Path.{_≡_, refl, sym}
 use mathlib.Core.Bool.{false}
 use mathlib.Core.List.{List}
-use lib.ListN.{length, length-take}
+use lib.ListN.{length, take, length-take}
+use lib.Seq.{length-take-le}
 use borrow.Author.Tests.{ltb-false, le-ltb}
 use Rattle.base.specs.Lent.{overwritten}
 use Rattle.settings.specs.declared.settings.Settings.{Settings}
@@ -24,6 +25,14 @@ use Rattle.link.specs.View.{frame-limit, encoding-of, sent-bytes, Sends}
 use Rattle.link.specs.declared.encoded.Sent.{Sent}
 
 -- ---- lengths
+
+-- the first n of an array of k
+module _ (k n : ℕ) (l : List ℕ) (fits : n ≤ k) (long : length l ≡ k) where
+  pub prefix-fits : n ≤ length l
+  prefix-fits = omega arith
+
+  pub prefix-long : n ≡ length (take n l)
+  prefix-long = sym (length-take-le n l prefix-fits)
 
 change-length : (c : Change) → too-long c ≡ false → length (change-field c) ≤ 4 + data-limit
 change-length (command k d) e = omega (arith, ltb-false data-limit (length d) e)
@@ -56,8 +65,12 @@ meaning-as-length Order s n c σ e = encode-length (order s n c) e
 meaning-as-length Ack s n c σ e = encode-length (ack s n) refl
 meaning-as-length (Refuse r) s n c σ e = encode-length (refuse s r) refl
 
-pub meaning-length : (f : FrameStruct) → length (f .change .body) ≡ data-limit → length (encoding-of (meaning f)) ≤ frame-limit
+meaning-length : (f : FrameStruct) → length (f .change .body) ≡ data-limit → length (encoding-of (meaning f)) ≤ frame-limit
 meaning-length f e = meaning-as-length (f .kind) (f .session .0) (f .number .0) (asked (f .change)) (f .settings) (asked-short (f .change) e)
+
+-- the same bytes sent
+pub sends-equal : {xs ys : List ℕ} {r : Sent} {before after : List ℕ} → Sends xs r before after → xs ≡ ys → Sends ys r before after
+sends-equal sent e = rw e at sent
 
 -- an output as long as the longest frame takes the whole of any
 pub sent-whole : (f : FrameStruct) (r : Sent) (before after : List ℕ) → length (f .change .body) ≡ data-limit → frame-limit ≤ length before →

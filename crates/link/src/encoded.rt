@@ -10,8 +10,6 @@ ghost use mathlib.Core.List.{[], _∷_};
 ghost use Prim.Native.Nat.{_+_, _≤_};
 ghost use lib.ListN.{length};
 ghost use Rattle.number.specs.Number.{le16-bytes};
-ghost use Rattle.frame.specs.View.{refusal-of};
-ghost use Rattle.base.specs.Lent.{overwritten};
 ghost use Rattle.link.specs.Encoding.{field as field-of};
 ghost use Rattle.link.specs.Steps as steps;
 ghost use Rattle.link.specs.View as view;
@@ -72,9 +70,7 @@ pub struct Sent {
 }
 
 pub(crate) fn put(bytes: &[u8], out: &mut [u8]) -> Sent
-    ensures refusal { λ r. ⌜ refusal-of (r .verdict) ≡ view.sent-refusal (now (bytes .entry)) (length (now (out .entry))) ⌝ }
-    ensures length { λ r. ⌜ r .len ≡ length (view.sent-bytes (now (bytes .entry)) (length (now (out .entry)))) ⌝ }
-    ensures output { λ r. ⌜ now (out .exit) ≡ overwritten (view.sent-bytes (now (bytes .entry)) (length (now (out .entry)))) (now (out .entry)) ⌝ }
+    ensures { λ r. ⌜ view.Sends (now (bytes .entry)) r (now (out .entry)) (now (out .exit)) ⌝ }
 {
     if out.len() < bytes.len() {
         return Sent {

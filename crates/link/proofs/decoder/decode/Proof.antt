@@ -15,27 +15,24 @@ encodes-to-requires c κs = search needs
 
 returns : tie.Need-returns
 returns c =
-    let b = c .before .before .before .before .before .before .args .bytes .now in
     let f = c .before .before .before .before .promised in
-    decode-taken b (f .result) (f .ensures) (sym (c .before .before .before .allowed .ensures) ∙ c .before .before .if1 .taken) (sym (c .before .encodes-to .ensures) ∙ c .if2 .taken)
+    decode-taken _ _ (f .ensures) (sym (c .before .before .before .allowed .ensures) ∙ c .before .before .if1 .taken) (sym (c .before .encodes-to .ensures) ∙ c .if2 .taken)
 
 malformed-requires : tie.Need-malformed-requires
 malformed-requires c κs = search needs
 
 returns-2 : tie.Need-returns-2
 returns-2 c =
-    let b = c .before .before .before .before .before .before .before .args .bytes .now in
     let f = c .before .before .before .before .before .promised in
-    rw (c .malformed .ensures, decode-other b (f .result) (f .ensures) (sym (c .before .before .encodes-to .ensures) ∙ c .before .if2 .left)) (refl, refl)
+    rw (c .malformed .ensures, decode-other _ _ (f .ensures) (sym (c .before .before .encodes-to .ensures) ∙ c .before .if2 .left)) (refl, refl)
 
 malformed-requires-2 : tie.Need-malformed-requires-2
 malformed-requires-2 c κs = search needs
 
 returns-3 : tie.Need-returns-3
 returns-3 c =
-    let b = c .before .before .before .before .before .args .bytes .now in
     let f = c .before .before .before .promised in
-    rw (c .malformed2 .ensures, decode-refused b (f .result) (f .ensures) (sym (c .before .before .allowed .ensures) ∙ c .before .if1 .left)) (refl, refl)
+    rw (c .malformed2 .ensures, decode-refused _ _ (f .ensures) (sym (c .before .before .allowed .ensures) ∙ c .before .if1 .left)) (refl, refl)
 
 pub decode-spec : {M : Type 1} → statement M
 decode-spec =

@@ -1,5 +1,3 @@
-use mathlib.Core.Path.{refl, _∙_}
-use borrow.Author.Tests.{le-ltb}
 use borrow.Author.Needs.{needs}
 use Rattle.base.proofs.Lists.{sets-front}
 use Rattle.base.proofs.Tests.{tests}
@@ -19,10 +17,7 @@ same-length c = search needs
 
 returns-2 : tie.Need-returns-2
 unfolding sent-bytes sent-refusal
-returns-2 c =
-    let a = c .before .before .before .before .before .before .before .args in
-    let room = c .before .before .before .before .if1 .left in
-    rw (le-ltb _ _ room) (refl, (refl, c .before .before .store .ensures ∙ sets-front (a .bytes .now) (a .out .now) room))
+returns-2 c = search (needs, tests, c .before .before .store .ensures, sets-front)
 
 pub put-spec : {M : Type 1} → statement M
 put-spec = tie.close (tie.spec returns store-requires same-length returns-2)

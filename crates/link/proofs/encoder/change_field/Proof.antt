@@ -1,9 +1,10 @@
+use Prim.Native.Nat.{_≤_}
 use native.Mathlib.Omega.{arith}
-use mathlib.Core.Path.{_≡_, sym, _∙_}
-use lib.ListN.{length, length-take}
-use lib.Seq.{length-take-le}
+use mathlib.Core.Path.{_∙_}
+use lib.ListN.{length-take}
 use Rattle.frame.specs.Frame.{data-limit}
 use Rattle.frame.proofs.Laws.{data-taken}
+use Rattle.link.proofs.FrameLaws.{prefix-fits, prefix-long}
 use borrow.Author.Needs.{needs}
 use Rattle.link.proofs.encoder.change_field.Statement.{statement}
 use Rattle.link.proofs.encoder.change_field.Tie as tie
@@ -16,20 +17,14 @@ data-length-requires c κs = search needs
 
 array-share-prefix-body : tie.Need-array-share-prefix-body
 array-share-prefix-body c =
-    let long : length (c .before .before .before .before .before .args .change .body) ≡ data-limit = search needs in
-    omega (arith, c .data-length .ensures)
+    let fits : c .data-length .result ≤ data-limit = search needs in
+    search (needs, prefix-fits data-limit)
 
 slice-aggregate-command-field : tie.Need-slice-aggregate-command-field
-slice-aggregate-command-field c =
-    let body = c .before .before .before .before .before .before .args .change .body in
-    let long : length body ≡ data-limit = search needs in
-    sym (length-take-le (c .before .data-length .result) body (omega (arith, c .before .data-length .ensures)))
+slice-aggregate-command-field c = prefix-long data-limit _ _ (search needs) (search needs)
 
 command-field-requires : tie.Need-command-field-requires
-command-field-requires c κs =
-    let body = c .before .before .before .before .before .before .args .change .body in
-    let long : length body ≡ data-limit = search needs in
-    omega (arith, length-take (c .before .data-length .result) body)
+command-field-requires c κs = simp length-take (omega arith)
 
 enum-known-ask-2 : tie.Need-enum-known-ask-2
 enum-known-ask-2 c = search needs
@@ -45,9 +40,7 @@ step-field-requires-2 c κs = search needs
 
 returns : tie.Need-returns
 returns c =
-    let x = c .before .before .before .before .before .before .before .args .change in
-    c .command-field .ensures
-    ∙ rw (c .before .before .data-length .ensures, c .before .before .before .before .before .ask .given .1, data-taken x (search needs))
+    search (needs, c .command-field .ensures, c .before .before .data-length .ensures, c .before .before .before .before .before .ask .given .1, data-taken)
 
 returns-2 : tie.Need-returns-2
 returns-2 c = c .step-field .ensures ∙ rw (c .before .before .ask2 .given .1)

@@ -1,6 +1,9 @@
-use mathlib.Core.Path.{_∙_}
+use native.Mathlib.Omega.{arith}
+use mathlib.Core.Path.{refl}
 use borrow.Author.Needs.{needs}
+use Rattle.frame.specs.Frame.{welcome, order, refuse}
 use Rattle.link.specs.Encoding.{encode}
+use Rattle.link.proofs.FrameLaws.{asked-short, encode-length}
 use Rattle.link.proofs.Building.{whole-encoded}
 use Rattle.link.proofs.encoder.encode.Statement.{statement}
 use Rattle.link.proofs.encoder.encode.Tie as tie
@@ -42,36 +45,26 @@ refuse-requires : tie.Need-refuse-requires
 refuse-requires c κs = search needs
 
 returns : tie.Need-returns
-returns c =
-    let f = c .before .before .before .before .before .args .frame in
-    whole-encoded f (c .empty .result) (search needs) (c .empty .ensures ∙ rw (c .before .enum-told .given .1))
+returns c = rw (c .before .enum-told .given .1) (whole-encoded _ _ (omega arith) (c .empty .ensures))
 
 returns-2 : tie.Need-returns-2
 unfolding encode
-returns-2 c =
-    let f = c .before .before .before .before .before .args .frame in
-    whole-encoded f (c .session-field .result) (search needs) (c .session-field .ensures ∙ rw (c .before .enum-told2 .given .1))
+returns-2 c = rw (c .before .enum-told2 .given .1) (whole-encoded _ _ (omega arith) (c .session-field .ensures))
 
 returns-3 : tie.Need-returns-3
-returns-3 c =
-    let f = c .before .before .before .before .before .args .frame in
-    whole-encoded f (c .welcome .result) (search needs) (c .welcome .ensures ∙ rw (c .before .enum-told3 .given .1))
+returns-3 c = rw (c .before .enum-told3 .given .1) (whole-encoded _ _ (encode-length (welcome _ _) refl) (c .welcome .ensures))
 
 returns-4 : tie.Need-returns-4
 returns-4 c =
-    let f = c .before .before .before .before .before .args .frame in
-    whole-encoded f (c .order .result) (search needs) (c .order .ensures ∙ rw (c .before .enum-told4 .given .1))
+    let change = c .before .before .before .before .before .args .frame .change in
+    rw (c .before .enum-told4 .given .1) (whole-encoded _ _ (encode-length (order _ _ _) (asked-short change (search needs))) (c .order .ensures))
 
 returns-5 : tie.Need-returns-5
 unfolding encode
-returns-5 c =
-    let f = c .before .before .before .before .before .args .frame in
-    whole-encoded f (c .numbered-field .result) (search needs) (c .numbered-field .ensures ∙ rw (c .before .enum-told5 .given .1))
+returns-5 c = rw (c .before .enum-told5 .given .1) (whole-encoded _ _ (omega arith) (c .numbered-field .ensures))
 
 returns-6 : tie.Need-returns-6
-returns-6 c =
-    let f = c .before .before .before .before .before .before .args .frame in
-    whole-encoded f (c .refuse .result) (search needs) (c .refuse .ensures ∙ rw (c .before .before .kind .given .1))
+returns-6 c = rw (c .before .before .kind .given .1) (whole-encoded _ _ (encode-length (refuse _ _) refl) (c .refuse .ensures))
 
 pub encode-spec : {M : Type 1} → statement M
 encode-spec =

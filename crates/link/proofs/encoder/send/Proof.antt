@@ -1,9 +1,6 @@
-use native.Mathlib.Omega.{arith}
-use mathlib.Core.Path.{_≡_, sym}
-use lib.ListN.{length}
-use lib.Seq.{length-take-le}
 use borrow.Author.Needs.{needs}
 use Rattle.link.specs.View.{frame-limit}
+use Rattle.link.proofs.FrameLaws.{prefix-fits, prefix-long, sends-equal}
 use Rattle.link.proofs.encoder.send.Statement.{statement}
 use Rattle.link.proofs.encoder.send.Tie as tie
 
@@ -11,16 +8,10 @@ encode-requires : tie.Need-encode-requires
 encode-requires c κs = search needs
 
 array-share-prefix-bytes : tie.Need-array-share-prefix-bytes
-array-share-prefix-bytes c =
-    let e = c .before .encode in
-    let long : length (e .result .bytes) ≡ frame-limit = search needs in
-    omega (arith, e .ensures .1 .1)
+array-share-prefix-bytes c = search (needs, prefix-fits frame-limit)
 
 slice-aggregate-put : tie.Need-slice-aggregate-put
-slice-aggregate-put c =
-    let e = c .before .before .encode in
-    let long : length (e .result .bytes) ≡ frame-limit = search needs in
-    sym (length-take-le (e .result .len) (e .result .bytes) (omega (arith, e .ensures .1 .1)))
+slice-aggregate-put c = prefix-long frame-limit _ _ (search needs) (search needs)
 
 put-requires : tie.Need-put-requires
 put-requires c κs = search needs
@@ -29,9 +20,7 @@ same-length : tie.Need-same-length
 same-length c = search needs
 
 returns : tie.Need-returns
-returns c =
-    let sent = rw (c .before .before .before .before .before .before .encode .ensures .1 .0) at (c .before .before .put .ensures) in
-    record { refusal-is = sent .0; length-is = sent .1 .0; output-is = sent .1 .1 }
+returns c = sends-equal (c .before .before .put .ensures) (search needs)
 
 pub send-spec : {M : Type 1} → statement M
 send-spec =
