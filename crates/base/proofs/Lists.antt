@@ -6,7 +6,7 @@ use native.Mathlib.Nat.{zero-add, add-zero, add-suc, suc-add}
 use native.Mathlib.Numerals.{add-one}
 use native.Mathlib.Omega.{arith}
 use lib.ListN.{length, getD, take, drop, set, length-append}
-use lib.Seq.{take-suc, drop-cons, sets, sets-eq, length-take-le, set-append-seam, append-snoc}
+use lib.Seq.{take-suc, drop-cons, set-out, sets, sets-eq, length-sets, length-take-le, set-append-seam, append-snoc}
 use Rattle.base.specs.Lent.{overwritten}
 
 pub take-more : (l : List ℕ) (i : ℕ) → i < length l → take (i + 1) l ≡ take i l ++ getD l i 0 ∷ []
@@ -25,6 +25,10 @@ sets-more l bytes k i h =
     let passed : length (take i bytes) ≡ i = length-take-le i bytes (omega arith) in
     let place : k + length (take i bytes) ≡ i + k = omega arith in
     rw (take-more bytes i h, ← sets-append (take i bytes) (getD bytes i 0 ∷ []) l k, place)
+
+-- the same where it has no room
+pub sets-left : (l bytes : List ℕ) (k i : ℕ) → i < length bytes → length l ≤ i + k → sets l k (take (i + 1) bytes) ≡ sets l k (take i bytes)
+sets-left l bytes k i h full = sets-more l bytes k i h ∙ set-out _ _ _ (rw length-sets full)
 
 -- a run of stores after another, both from the front
 pub sets-next : (xs ys l : List ℕ) (n : ℕ) → n ≡ length xs → sets (sets l 0 xs) n ys ≡ sets l 0 (xs ++ ys)

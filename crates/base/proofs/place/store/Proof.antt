@@ -1,10 +1,10 @@
-use Prim.Native.Nat.{_+_, _≤_, _-_}
+use Prim.Native.Nat.{_≤_, _-_}
 use mathlib.Core.Logic.{⊎-elim}
 use mathlib.Core.Path.{_≡_, refl, sym, _∙_}
-use lib.ListN.{length, getD, take, set}
-use lib.Seq.{sets, take-all, set-out}
+use lib.ListN.{length, take}
+use lib.Seq.{sets, take-all}
 use borrow.Author.Needs.{needs}
-use Rattle.base.proofs.Lists.{sets-more}
+use Rattle.base.proofs.Lists.{sets-more, sets-left}
 use Rattle.base.proofs.place.store.Statement.{statement}
 use Rattle.base.proofs.place.store.Tie as tie
 
@@ -37,11 +37,13 @@ loop-less c = search needs
 
 loop-again : tie.Need-loop-again Inv-loop μ-loop
 loop-again c =
-    let l = c .before .before .loop in
-    let a = c .before .before .before .before .before .before .args in
-    let stored : c .if1 .out ≡ set (l .out) (l .i + a .at) (getD (a .bytes .now) (l .i) 0) =
-    ⊎-elim (λ w. w .2) (λ w. w .1 ∙ sym (set-out (l .out) (l .i + a .at) (getD (a .bytes .now) (l .i) 0) (search needs))) (c .if1 .came) in
-    (search needs, rw stored (search needs), stored ∙ rw (l .inv .2) (sym (sets-more _ _ _ (l .i) (search needs))))
+    let l = c .before .before .loop in (
+      search needs,
+      ⊎-elim (λ w. rw (w .2) (search needs)) (λ w. rw (w .1) (search needs)) (c .if1 .came),
+      ⊎-elim (λ w. w .2 ∙ rw (l .inv .2) (sym (sets-more _ _ _ (l .i) (search needs))))
+          (λ w. w .1 ∙ l .inv .2 ∙ sym (sets-left _ _ _ (l .i) (search needs) (search needs)))
+          (c .if1 .came),
+    )
 
 same-length : tie.Need-same-length Inv-loop μ-loop
 same-length c = search needs
