@@ -1,66 +1,66 @@
 -- What the code builds up run by run, and the packet that it comes to.
-use Prim.Native.Nat.{ℕ, _+_, _≤_}
-use native.Mathlib.Nat.{add-assoc}
+use Prim.Native.Nat.{ℕ, _+_, _<_, _≤_}
+use native.Mathlib.Nat.{zero-add, add-assoc}
 use native.Mathlib.Omega.{arith}
-use mathlib.Core.Path.{_≡_, refl, ap, _∙_}
-use mathlib.Core.List.{List, [], _∷_, _++_}
-use lib.ListN.{length, take, replicate, length-append, length-take}
+use mathlib.Core.Path.{_≡_, refl, _∙_}
+use mathlib.Core.List.{List, _∷_, _++_, append-assoc}
+use lib.ListN.{length, getD, take, set, replicate, length-append}
 use lib.Seq.{take-at}
 use Rattle.base.proofs.Lists.{sets-append, sets-front}
-use Rattle.packet.specs.declared.builder.Packet.{Packet}
-use Rattle.packet.specs.Packet.{data-most, packet-limit, checksum, escape, packet-of}
+use Rattle.packet.specs.Packet.{data-most, packet-limit, checksum, escape-byte, escape, fields, packet-of}
 use Rattle.packet.specs.Writer.{built}
-use Rattle.packet.specs.Steps.{pushed}
-use Rattle.packet.proofs.PacketLaws.{escape-append, fields-escape}
+use Rattle.packet.specs.Steps.{Put, head}
+use Rattle.packet.proofs.Loops.{escape-more, escape-within}
 use Rattle.packet.proofs.PacketTheorems.{packet-of-short}
 
-pub pushed-append : (p : Packet) (xs ys : List ℕ) → pushed (pushed p xs) ys ≡ pushed p (xs ++ ys)
-unfolding pushed
-pushed-append p xs ys =
-    let runs = sets-append xs ys (p .bytes) (p .len) in
-    let lens : (p .len + length xs) + length ys ≡ p .len + length (xs ++ ys) = rw (length-append, add-assoc) in
-    λ i. record { bytes = runs i; len = lens i }
+-- a run after another
+pub put-then : {xs ys out out′ out″ : List ℕ} {at next last : ℕ} → Put xs at out out′ next → Put ys next out′ out″ last → Put (xs ++ ys) at out out″ last
+put-then {xs} {ys} {out} {at = at} p q = record {
+  next-is = q .next-is ∙ rw (p .next-is, length-append xs ys, add-assoc);
+  after-is = q .after-is ∙ rw (p .after-is, p .next-is) (sets-append xs ys out at);
+}
 
-pub pushed-built : (l : List ℕ) → length (0xA5 ∷ l) ≤ packet-limit → pushed (built (0xA5 ∷ [])) l ≡ built (0xA5 ∷ l)
-unfolding pushed
-pushed-built l short =
-    let run = sets-front (0xA5 ∷ l) (replicate packet-limit 0) short in
-    let len : 1 + length l ≡ length (0xA5 ∷ l) = omega arith in
-    λ i. record { bytes = run i; len = len i }
+-- a run after one byte
+pub put-after : {b : ℕ} {xs out out′ : List ℕ} {next : ℕ} → Put xs 1 (set out 0 b) out′ next → Put (b ∷ xs) 0 out out′ next
+put-after p = record { next-is = omega (arith, p .next-is); after-is = p .after-is }
+
+-- one more byte of a run
+module _ (l : List ℕ) (i : ℕ) {start at : ℕ} {out out′ : List ℕ} (p : Put (escape (take i l)) start out out′ at) (h : i < length l) where
+  pub put-room : start + length (escape l) ≤ packet-limit → at + length (escape-byte (getD l i 0)) ≤ packet-limit
+  put-room room = omega (arith, p .next-is, escape-within l i h)
+
+  pub put-more : {out″ : List ℕ} {next : ℕ} → Put (escape-byte (getD l i 0)) at out′ out″ next → Put (escape (take (i + 1) l)) start out out″ next
+  put-more q = rw (escape-more l i h) (put-then p q)
 
 -- the bytes that a packet was built of
 pub built-front : (bytes : List ℕ) → take (built bytes .len) (built bytes .bytes) ≡ bytes
 built-front bytes = take-at bytes _ (length bytes) refl
 
-pub built-short : (k : ℕ) (l : List ℕ) → built (packet-of k (take data-most l)) .len ≤ packet-limit
-built-short k l = packet-of-short k (take data-most l) (rw length-take (omega arith))
-
-module _ (k : ℕ) (d : List ℕ) where
-  abbrev pub head : List ℕ
-  head = escape (k ∷ length d ∷ [])
-
-  abbrev pub tail : List ℕ
-  tail = escape (checksum (k ∷ length d ∷ d) ∷ [])
+module _ (k : ℕ) (d : List ℕ) (short : length d ≤ data-most) where
+  abbrev sum : ℕ
+  sum = checksum (k ∷ length d ∷ d)
 
   -- a packet in the runs in which it is built
-  packet-runs : packet-of k d ≡ 0xA5 ∷ (head ++ (escape d ++ tail))
-  unfolding packet-of
-  packet-runs =
-      let s = checksum (k ∷ length d ∷ d) in
-      fields-escape k (length d) d s ∙ rw (escape-append (k ∷ length d ∷ []) (d ++ s ∷ []), escape-append d (s ∷ []))
+  abbrev runs : List ℕ
+  runs = head k (length d) ++ (escape d ++ escape-byte sum)
 
-  pub runs-short : length d ≤ data-most → 1 + length head + length (escape d) + length tail ≤ packet-limit
-  runs-short short =
-      omega (
-        arith,
-        packet-of-short k d short,
-        ap length packet-runs,
-        length-append head (escape d ++ tail),
-        length-append (escape d) tail,
-      )
+  packet-runs : packet-of k d ≡ runs
+  unfolding packet-of fields
+  packet-runs = simp append-assoc
 
-  pub runs-built : length d ≤ data-most → pushed (pushed (pushed (built (0xA5 ∷ [])) head) (escape d)) tail ≡ built (packet-of k d)
-  runs-built short =
-      pushed-append (pushed (built (0xA5 ∷ [])) head) (escape d) tail
-      ∙ pushed-append (built (0xA5 ∷ [])) head (escape d ++ tail)
-      ∙ rw packet-runs (pushed-built (head ++ (escape d ++ tail)) (rw packet-runs at (packet-of-short k d short)))
+  runs-short : length (head k (length d)) + length (escape d) + length (escape-byte sum) ≤ packet-limit
+  runs-short = simp length-append (omega (arith, simp length-append at (rw packet-runs at (packet-of-short k d short))))
+
+  -- each has room behind those before it
+  module _ {out out′ : List ℕ} {start : ℕ} (p : Put (head k (length d)) 0 out out′ start) where
+    pub data-room : start + length (escape d) ≤ packet-limit
+    data-room = omega (arith, runs-short, p .next-is)
+
+    pub sum-room : {out″ : List ℕ} {end : ℕ} → Put (escape d) start out′ out″ end → end + length (escape-byte sum) ≤ packet-limit
+    sum-room q = omega (arith, runs-short, p .next-is, q .next-is)
+
+  pub runs-built : {out : List ℕ} {len : ℕ} → Put runs 0 (replicate packet-limit 0) out len → record { bytes = out; len = len } ≡ built (packet-of k d)
+  runs-built = rw (← packet-runs) (λ p.
+      let run = p .after-is ∙ sets-front (packet-of k d) (replicate packet-limit 0) (packet-of-short k d short) in
+      let len = p .next-is ∙ zero-add _ in
+      λ i. record { bytes = run i; len = len i })

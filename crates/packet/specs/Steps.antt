@@ -2,21 +2,22 @@
 use Prim.Native.Nat.{ℕ, _+_}
 use mathlib.Core.Path.{_≡_}
 use mathlib.Core.Bool.{cond}
-use mathlib.Core.List.{List}
+use mathlib.Core.List.{List, _∷_, _++_}
 use lib.ListN.{length}
 use lib.Seq.{sets}
 use lib.Dec.{ltb}
 use Rattle.base.specs.Result.{Result, refused, accepted}
-use Rattle.packet.specs.declared.builder.Packet.{Packet}
+use Rattle.packet.specs.Packet.{escape-byte}
 
--- bytes stored at a place of a lent output, which is then `out′`, and the place after them answered
-abbrev pub Put : List ℕ → ℕ → List ℕ → List ℕ → ℕ → Type 0
-Put bytes at out out′ next = (next ≡ at + length bytes) × (out′ ≡ sets out at bytes)
+-- bytes stored at a place of a lent output, which is then `after`, and the place after them answered
+pub record Put (bytes : List ℕ) (at : ℕ) (before after : List ℕ) (next : ℕ) : Type 0 where
+  pub next-is : next ≡ at + length bytes
+  pub after-is : after ≡ sets before at bytes
 
--- with bytes behind those that it has
-unfoldable pub pushed : Packet → List ℕ → Packet
-pushed p bytes = record { bytes = sets (p .bytes) (p .len) bytes; len = p .len + length bytes }
+-- a packet as far as its count
+abbrev pub head : ℕ → ℕ → List ℕ
+head command count = 0xA5 ∷ (escape-byte command ++ escape-byte count)
 
 -- bytes for an output of `room` bytes: all or nothing
-abbrev pub fitting : List ℕ → ℕ → Result (List ℕ)
+unfoldable pub fitting : List ℕ → ℕ → Result (List ℕ)
 fitting bytes room = cond (ltb room (length bytes)) (refused 1) (accepted bytes)

@@ -1,5 +1,6 @@
 -- What the packet writer is to do: document 01, "Refusal numbers".
 use Prim.Native.Nat.{ℕ}
+use mathlib.Core.Path.{_≡_}
 use mathlib.Core.Bool.{cond}
 use mathlib.Core.List.{List, []}
 use lib.ListN.{length, replicate}
@@ -38,6 +39,11 @@ answer (Length n) = accepted n
 abbrev pub bytes-of : Result (List ℕ) → List ℕ
 bytes-of (refused n) = []
 bytes-of (accepted bytes) = bytes
+
+-- what a call answered and made of its lent output, where `result` says by the output's length what is to be written
+pub record Writes (result : ℕ → Result (List ℕ)) (r : Written) (before after : List ℕ) : Type 0 where
+  pub answer-is : answer r ≡ length-of (result (length before))
+  pub output-is : after ≡ overwritten (bytes-of (result (length before))) before
 
 -- a packet by value: its bytes at the front of as many as the longest has
 abbrev pub built : List ℕ → Packet

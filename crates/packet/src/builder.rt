@@ -1,12 +1,11 @@
 // A packet by value.
 use crate::sum::checksum;
 ghost use mathlib.Core.Path.{_≡_};
-ghost use mathlib.Core.List.{[], _∷_};
 ghost use Prim.Native.Nat.{_+_, _≤_};
 ghost use lib.ListN.{length, take};
 ghost use Rattle.packet.specs.Packet.{data-most, packet-limit, escape-byte, escape, packet-of};
 ghost use Rattle.packet.specs.Writer.{built};
-ghost use Rattle.packet.specs.Steps.{Put, pushed};
+ghost use Rattle.packet.specs.Steps.{Put, head};
 
 // The longest packet's length.
 pub const PACKET_LIMIT: usize = 516;
@@ -28,10 +27,17 @@ pub struct Packet {
 pub fn build(command: u8, bytes: &[u8]) -> Packet
     ensures { λ r. ⌜ r ≡ built (packet-of command (take data-most (now (bytes .entry)))) ⌝ }
 {
+    build_whole(command, first(bytes))
+}
+
+// As many of the bytes as a packet takes.
+fn first(bytes: &[u8]) -> &[u8]
+    ensures { λ r. ⌜ now r ≡ take data-most (now (bytes .entry)) ⌝ }
+{
     if DATA_MOST < bytes.len() {
-        return build_whole(command, &bytes[..DATA_MOST]);
+        return &bytes[..DATA_MOST];
     }
-    build_whole(command, bytes)
+    bytes
 }
 
 fn build_whole(command: u8, bytes: &[u8]) -> Packet
@@ -39,39 +45,28 @@ fn build_whole(command: u8, bytes: &[u8]) -> Packet
     ensures { λ r. ⌜ r ≡ built (packet-of command (now (bytes .entry))) ⌝ }
 {
     let count = bytes.len() as u8;
-    let sum = [checksum(command, count, bytes)];
-    Packet::begun(command, count).push(bytes).push(&sum)
+    let mut packet = Packet {
+        bytes: [0; PACKET_LIMIT],
+        len: 0,
+    };
+    let start = put_head(command, count, &mut packet.bytes);
+    let end = put_all(bytes, &mut packet.bytes, start);
+    packet.len = put(checksum(command, count, bytes), &mut packet.bytes, end);
+    packet
 }
 
-impl Packet {
-    // The start, the command byte and the count.
-    fn begun(command: u8, count: u8) -> Packet
-        ensures { λ r. ⌜ r ≡ pushed (built (0xA5 ∷ [])) (escape (command ∷ count ∷ [])) ⌝ }
-    {
-        let mut array = [0; PACKET_LIMIT];
-        array[0] = START;
-        let head = [command, count];
-        let start = Packet {
-            bytes: array,
-            len: 1,
-        };
-        start.push(&head)
-    }
-
-    // Bytes, each escaped where it must be.
-    fn push(self, bytes: &[u8]) -> Packet
-        requires { ⌜ self .len + length (escape (now bytes)) ≤ packet-limit ⌝ }
-        ensures { λ r. ⌜ r ≡ pushed self (escape (now (bytes .entry))) ⌝ }
-    {
-        let mut array = self.bytes;
-        let len = put_all(bytes, &mut array, self.len);
-        Packet { bytes: array, len }
-    }
+// The start, the command byte and the count.
+fn put_head(command: u8, count: u8, out: &mut [u8; PACKET_LIMIT]) -> usize
+    ensures { λ r. ⌜ Put (head command count) 0 (now (out .entry)) (now (out .exit)) r ⌝ }
+{
+    out[0] = START;
+    let at = put(command, &mut *out, 1);
+    put(count, &mut *out, at)
 }
 
 // Stores bytes escaped at out[start] and on, and answers the place after them.
-fn put_all(bytes: &[u8], out: &mut [u8], start: usize) -> usize
-    requires { ⌜ start + length (escape (now bytes)) ≤ length (now out) ⌝ }
+fn put_all(bytes: &[u8], out: &mut [u8; PACKET_LIMIT], start: usize) -> usize
+    requires { ⌜ start + length (escape (now bytes)) ≤ packet-limit ⌝ }
     ensures { λ r. ⌜ Put (escape (now (bytes .entry))) start (now (out .entry)) (now (out .exit)) r ⌝ }
 {
     let mut at = start;
@@ -84,8 +79,8 @@ fn put_all(bytes: &[u8], out: &mut [u8], start: usize) -> usize
 }
 
 // The same of one byte.
-fn put(byte: u8, out: &mut [u8], at: usize) -> usize
-    requires { ⌜ at + length (escape-byte byte) ≤ length (now out) ⌝ }
+fn put(byte: u8, out: &mut [u8; PACKET_LIMIT], at: usize) -> usize
+    requires { ⌜ at + length (escape-byte byte) ≤ packet-limit ⌝ }
     ensures { λ r. ⌜ Put (escape-byte byte) at (now (out .entry)) (now (out .exit)) r ⌝ }
 {
     if byte == START {

@@ -1,14 +1,14 @@
 // The packet writer.
 use crate::builder::DATA_MOST;
+use crate::builder::Packet;
 use crate::builder::build;
 use base::Refusal;
 use base::store;
 ghost use mathlib.Core.Path.{_≡_};
 ghost use Prim.Native.Nat.{_≤_};
-ghost use lib.ListN.{length};
-ghost use Rattle.packet.specs.Packet.{data-most, command-byte, packet-of};
-ghost use Rattle.base.specs.Lent.{overwritten};
-ghost use Rattle.packet.specs.Writer.{id-most, written, answer, length-of, bytes-of};
+ghost use lib.ListN.{take};
+ghost use Rattle.packet.specs.Packet.{packet-limit, command-byte};
+ghost use Rattle.packet.specs.Writer.{id-most, written, Writes};
 ghost use Rattle.packet.specs.Steps.{fitting};
 
 // Whether a command writes a register or reads it: document 01's "way".
@@ -28,8 +28,7 @@ const ID_MOST: u8 = 127;
 
 // Writes a packet at the start of out. A refusal leaves out as it was.
 pub fn write(id: u8, access: Access, bytes: &[u8], out: &mut [u8]) -> Written
-    ensures answer { λ r. ⌜ answer r ≡ length-of (written id access (now (bytes .entry)) (length (now (out .entry)))) ⌝ }
-    ensures output { λ r. ⌜ now (out .exit) ≡ overwritten (bytes-of (written id access (now (bytes .entry)) (length (now (out .entry))))) (now (out .entry)) ⌝ }
+    ensures { λ r. ⌜ Writes (written id access (now (bytes .entry))) r (now (out .entry)) (now (out .exit)) ⌝ }
 {
     if ID_MOST < id {
         return Written::Refused(Refusal::IdTooLarge);
@@ -37,7 +36,7 @@ pub fn write(id: u8, access: Access, bytes: &[u8], out: &mut [u8]) -> Written
     if DATA_MOST < bytes.len() {
         return Written::Refused(Refusal::DataTooLong);
     }
-    put_packet(command_byte(id, access), bytes, &mut *out)
+    put_packet(build(command_byte(id, access), bytes), &mut *out)
 }
 
 fn command_byte(id: u8, access: Access) -> u8
@@ -50,12 +49,10 @@ fn command_byte(id: u8, access: Access) -> u8
     }
 }
 
-fn put_packet(command: u8, bytes: &[u8], out: &mut [u8]) -> Written
-    requires { ⌜ length (now bytes) ≤ data-most ⌝ }
-    ensures answer { λ r. ⌜ answer r ≡ length-of (fitting (packet-of command (now (bytes .entry))) (length (now (out .entry)))) ⌝ }
-    ensures output { λ r. ⌜ now (out .exit) ≡ overwritten (bytes-of (fitting (packet-of command (now (bytes .entry))) (length (now (out .entry))))) (now (out .entry)) ⌝ }
+fn put_packet(packet: Packet, out: &mut [u8]) -> Written
+    requires { ⌜ packet .len ≤ packet-limit ⌝ }
+    ensures { λ r. ⌜ Writes (fitting (take (packet .len) (packet .bytes))) r (now (out .entry)) (now (out .exit)) ⌝ }
 {
-    let packet = build(command, bytes);
     let array = packet.bytes;
     let len = packet.len;
     put_whole(&array[..len], &mut *out)
@@ -63,8 +60,7 @@ fn put_packet(command: u8, bytes: &[u8], out: &mut [u8]) -> Written
 
 // All of the bytes, or none where they have no room.
 fn put_whole(bytes: &[u8], out: &mut [u8]) -> Written
-    ensures answer { λ r. ⌜ answer r ≡ length-of (fitting (now (bytes .entry)) (length (now (out .entry)))) ⌝ }
-    ensures output { λ r. ⌜ now (out .exit) ≡ overwritten (bytes-of (fitting (now (bytes .entry)) (length (now (out .entry))))) (now (out .entry)) ⌝ }
+    ensures { λ r. ⌜ Writes (fitting (now (bytes .entry))) r (now (out .entry)) (now (out .exit)) ⌝ }
 {
     if out.len() < bytes.len() {
         return Written::Refused(Refusal::OutputTooShort);

@@ -1,32 +1,18 @@
 use native.Mathlib.Omega.{arith}
-use mathlib.Core.Path.{sym, _∙_}
-use lib.Seq.{take-all, length-take-le}
+use mathlib.Core.Path.{_∙_}
+use lib.ListN.{length-take}
 use borrow.Author.Needs.{needs}
-use Rattle.packet.specs.Packet.{data-most}
 use Rattle.packet.proofs.builder.build.Statement.{statement}
 use Rattle.packet.proofs.builder.build.Tie as tie
 
-slice-aggregate-build-whole : tie.Need-slice-aggregate-build-whole
-slice-aggregate-build-whole c = sym (length-take-le data-most (c .before .before .before .args .bytes .now) (search needs))
+first-requires : tie.Need-first-requires
+first-requires c κs = search needs
 
 build-whole-requires : tie.Need-build-whole-requires
-build-whole-requires c κs = omega (arith, length-take-le data-most (c .before .before .before .args .bytes .now) (search needs))
+build-whole-requires c κs = rw (c .first .ensures, length-take) (omega arith)
 
 returns : tie.Need-returns
-returns c = search needs
-
-build-whole-requires-2 : tie.Need-build-whole-requires-2
-build-whole-requires-2 c κs = search needs
-
-returns-2 : tie.Need-returns-2
-returns-2 c = c .build-whole2 .ensures ∙ rw (take-all data-most (c .before .before .before .args .bytes .now) (c .before .if1 .left))
+returns c = c .build-whole .ensures ∙ rw (c .before .first .ensures)
 
 pub build-spec : {M : Type 1} → statement M
-build-spec =
-    tie.close
-    (tie.spec
-    slice-aggregate-build-whole
-    build-whole-requires
-    returns
-    build-whole-requires-2
-    returns-2)
+build-spec = tie.close (tie.spec first-requires build-whole-requires returns)

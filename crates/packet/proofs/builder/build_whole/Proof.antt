@@ -1,50 +1,36 @@
-use native.Mathlib.Omega.{arith}
-use mathlib.Core.Path.{_∙_}
 use borrow.Author.Needs.{needs}
-use Rattle.packet.specs.Steps.{pushed}
-use Rattle.packet.proofs.Building.{runs-short, runs-built}
+use Rattle.packet.proofs.Building.{put-then, data-room, sum-room, runs-built}
 use Rattle.packet.proofs.builder.build_whole.Statement.{statement}
 use Rattle.packet.proofs.builder.build_whole.Tie as tie
 
 cast-count : tie.Need-cast-count
 cast-count c = search needs
 
+put-head-requires : tie.Need-put-head-requires
+put-head-requires c κs = search needs
+
+put-all-requires : tie.Need-put-all-requires
+put-all-requires c κs = data-room _ _ (search needs) (c .before .put-head .ensures)
+
 checksum-requires : tie.Need-checksum-requires
 checksum-requires c κs = search needs
 
-begun-requires : tie.Need-begun-requires
-begun-requires c κs = search needs
-
-push-requires : tie.Need-push-requires
-unfolding pushed
-push-requires c κs =
-    let a = c .before .before .before .args in
-    rw (c .begun .ensures) (omega (arith, runs-short (a .command) (a .bytes .now) (search needs)))
-
-slice-aggregate-push : tie.Need-slice-aggregate-push
-slice-aggregate-push c = search needs
-
-push-requires-2 : tie.Need-push-requires-2
-unfolding pushed
-push-requires-2 c κs =
-    let a = c .before .before .before .before .before .args in
-    rw (c .before .push .ensures, c .before .before .begun .ensures, c .before .before .before .checksum .ensures)
-    (omega (arith, runs-short (a .command) (a .bytes .now) (search needs)))
+put-requires : tie.Need-put-requires
+put-requires c κs =
+    rw (c .before .checksum .ensures) (sum-room _ _ (search needs) (c .before .before .before .before .put-head .ensures) (c .before .before .put-all .ensures))
 
 returns : tie.Need-returns
 returns c =
-    c .push2 .ensures
-    ∙ rw (c .before .before .push .ensures, c .before .before .before .begun .ensures, c .before .before .before .before .checksum .ensures)
-    (runs-built _ _ (search needs))
+    let sum = rw (c .before .before .checksum .ensures) at (c .put .ensures) in
+    runs-built _ _ (search needs) (put-then (c .before .before .before .before .before .put-head .ensures) (put-then (c .before .before .before .put-all .ensures) sum))
 
 pub build-whole-spec : {M : Type 1} → statement M
 build-whole-spec =
     tie.close
     (tie.spec
     cast-count
+    put-head-requires
+    put-all-requires
     checksum-requires
-    begun-requires
-    push-requires
-    slice-aggregate-push
-    push-requires-2
+    put-requires
     returns)

@@ -1,37 +1,29 @@
 use borrow.Author.Needs.{needs}
-use Prim.Native.Nat.{_≤_, _-_, _+_}
-use native.Mathlib.Omega.{arith}
-use mathlib.Core.Path.{_≡_, refl, ap, _∙_}
-use lib.ListN.{length, getD, take, length-append}
-use lib.Seq.{take-all, sets, length-sets}
-use Rattle.packet.specs.Packet.{escape-byte, escape}
-use Rattle.base.proofs.Lists.{sets-append}
-use Rattle.packet.proofs.Loops.{escape-more, escape-within}
+use Prim.Native.Nat.{_≤_, _-_}
+use mathlib.Core.Path.{refl}
+use lib.ListN.{length, take}
+use lib.Seq.{take-all}
+use Rattle.packet.specs.Packet.{escape}
+use Rattle.packet.specs.Steps.{Put}
+use Rattle.packet.proofs.Building.{put-room, put-more}
 use Rattle.packet.proofs.builder.put_all.Statement.{statement}
 use Rattle.packet.proofs.builder.put_all.Tie as tie
 
 abbrev Inv-loop : tie.InvT-loop
-Inv-loop bytes out₀ start at₀ i₀ out at i = (i ≤ length bytes) × (at ≡ start + length (escape (take i bytes))) × (out ≡ sets out₀ start (escape (take i bytes)))
+Inv-loop bytes out₀ start at₀ i₀ out at i = (i ≤ length bytes) × Put (escape (take i bytes)) start out₀ out at
 
 abbrev μ-loop : tie.MeasureT-loop
 μ-loop bytes out₀ start at₀ i₀ out at i = length bytes - i
 
 loop-holds : tie.Need-loop-holds Inv-loop μ-loop
 unfolding escape
-loop-holds c = (search needs, search needs, refl)
+loop-holds c = (search needs, record { next-is = search needs; after-is = refl })
 
 shared-slice-read-put : tie.Need-shared-slice-read-put Inv-loop μ-loop
 shared-slice-read-put c = search needs
 
 put-requires : tie.Need-put-requires Inv-loop μ-loop
-put-requires c κs =
-    let l = c .before .before .before .loop in
-    let a = c .before .before .before .before .before .before .args in
-    omega (
-      arith,
-      escape-within (a .bytes .now) (l .i) (search needs),
-      ap length (l .inv .2) ∙ length-sets (a .out .now) (a .start) (escape (take (l .i) (a .bytes .now))),
-    )
+put-requires c κs = put-room _ _ (c .before .before .before .loop .inv .1) (c .before .before .loop-test .taken) (search needs)
 
 add-i : tie.Need-add-i Inv-loop μ-loop
 add-i c = search needs
@@ -40,29 +32,10 @@ loop-less : tie.Need-loop-less Inv-loop μ-loop
 loop-less c = search needs
 
 loop-again : tie.Need-loop-again Inv-loop μ-loop
-loop-again c =
-    let l = c .before .before .before .before .before .before .loop in
-    let a = c .before .before .before .before .before .before .before .before .before .args in
-    let more = escape-more (a .bytes .now) (l .i) (search needs) in
-    let now = escape-byte (getD (a .bytes .now) (l .i) 0) in
-    let passed = escape (take (l .i) (a .bytes .now)) in (
-      search needs,
-      c .before .before .put .ensures .0 ∙ rw (more, length-append passed now) (omega (arith, l .inv .1)),
-      c .before .before .put .ensures .1 ∙ rw (l .inv .1, l .inv .2, more) (sets-append passed now (a .out .now) (a .start)),
-    )
-
-same-length : tie.Need-same-length Inv-loop μ-loop
-same-length c =
-    let l = c .before .loop in
-    let a = c .before .before .before .before .args in
-    ap length (l .inv .2) ∙ length-sets (a .out .now) (a .start) (escape (take (l .i) (a .bytes .now)))
+loop-again c = (search needs, put-more _ _ (c .before .before .before .before .loop .inv .1) (c .before .before .before .loop-test .taken) (c .put .ensures))
 
 returns : tie.Need-returns Inv-loop μ-loop
-returns c =
-    let l = c .before .loop in
-    let a = c .before .before .before .before .args in
-    let all = take-all (l .i) (a .bytes .now) (c .loop-test .left) in
-    (l .inv .1 ∙ rw all, l .inv .2 ∙ rw all)
+returns c = rw (take-all (c .before .loop .i) _ (c .loop-test .left)) at (c .before .loop .inv .1)
 
 pub put-all-spec : {M : Type 1} → statement M
 put-all-spec =
@@ -76,5 +49,4 @@ put-all-spec =
     add-i
     loop-less
     loop-again
-    same-length
     returns)

@@ -24,9 +24,7 @@ shared-slice-read-if1 c = search needs
 
 returns : tie.Need-returns Inv-loop μ-loop
 returns c =
-    let l = c .before .before .before .loop in
-    let bytes = c .before .before .before .before .args .bytes .now in
-    sym (l .inv .1 ∙ rw (dummies-more bytes (l .at) (search needs), ne-eqb _ _ (c .if1 .taken), add-zero))
+    sym (c .before .before .before .loop .inv .1 ∙ rw (dummies-more _ _ (c .before .before .loop-test .taken), ne-eqb _ _ (c .if1 .taken), add-zero))
 
 add-at : tie.Need-add-at Inv-loop μ-loop
 add-at c = search needs
@@ -36,9 +34,7 @@ loop-less c = search needs
 
 loop-again : tie.Need-loop-again Inv-loop μ-loop
 loop-again c =
-    let l = c .before .before .before .loop in
-    let bytes = c .before .before .before .before .args .bytes .now in
-    (search needs, l .inv .1 ∙ rw (dummies-more bytes (l .at) (search needs), eq-eqb _ _ (c .if1 .left)) (omega arith))
+    (search needs, c .before .before .before .loop .inv .1 ∙ rw (dummies-more _ _ (c .before .before .loop-test .taken), eq-eqb _ _ (c .if1 .left)) (omega arith))
 
 returns-2 : tie.Need-returns-2 Inv-loop μ-loop
 unfolding dummies

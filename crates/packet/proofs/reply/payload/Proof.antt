@@ -5,9 +5,7 @@ use Rattle.packet.proofs.reply.payload.Statement.{statement}
 use Rattle.packet.proofs.reply.payload.Tie as tie
 
 returns : tie.Need-returns
-returns c =
-    let a = c .before .before .args in
-    sym (payload-missing (a .bytes .now) (a .at) (c .if1 .taken))
+returns c = sym (payload-missing _ _ (c .if1 .taken))
 
 shared-slice-read-payload-of : tie.Need-shared-slice-read-payload-of
 shared-slice-read-payload-of c = search needs
@@ -19,9 +17,7 @@ payload-of-requires : tie.Need-payload-of-requires
 payload-of-requires c κs = search needs
 
 returns-2 : tie.Need-returns-2
-returns-2 c =
-    let a = c .before .before .before .before .args in
-    c .payload-of .ensures ∙ sym (payload-from (a .bytes .now) (a .at) (c .before .before .if1 .left))
+returns-2 c = c .payload-of .ensures ∙ sym (payload-from _ _ (c .before .before .if1 .left))
 
 pub payload-spec : {M : Type 1} → statement M
 payload-spec =

@@ -10,9 +10,7 @@ sub-if1 : tie.Need-sub-if1
 sub-if1 c = search needs
 
 returns : tie.Need-returns
-returns c =
-    let a = c .before .before .args in
-    sym (payload-is (a .bytes .now) (a .start) (a .m) ∙ simp (le-leb _ _ (c .if1 .taken)))
+returns c = sym (payload-is _ _ _ ∙ simp (le-leb _ _ (c .if1 .taken)))
 
 add-last : tie.Need-add-last
 add-last c = search needs
@@ -34,18 +32,16 @@ shared-slice-read-if2 c = search needs
 
 returns-2 : tie.Need-returns-2
 returns-2 c =
-    let a = c .before .before .before .before .before .before .args in
     let sum = rw add-sub-cancel-left at (c .before .before .checksum .ensures) in
-    sym (payload-is (a .bytes .now) (a .start) (a .m) ∙ simp (lt-leb _ _ (c .before .before .before .before .if1 .left), ← sum, ne-eqb _ _ (c .if2 .taken)))
+    sym (payload-is _ _ _ ∙ simp (lt-leb _ _ (c .before .before .before .before .if1 .left), ← sum, ne-eqb _ _ (c .if2 .taken)))
 
 add-t8 : tie.Need-add-t8
 add-t8 c = search needs
 
 returns-3 : tie.Need-returns-3
 returns-3 c =
-    let a = c .before .before .before .before .before .before .args in
     let sum = rw add-sub-cancel-left at (c .before .before .checksum .ensures) in
-    sym (payload-is (a .bytes .now) (a .start) (a .m) ∙ simp (lt-leb _ _ (c .before .before .before .before .if1 .left), ← sum, eq-eqb _ _ (c .if2 .left)))
+    sym (payload-is _ _ _ ∙ simp (lt-leb _ _ (c .before .before .before .before .if1 .left), ← sum, eq-eqb _ _ (c .if2 .left)))
 
 pub payload-of-spec : {M : Type 1} → statement M
 payload-of-spec =

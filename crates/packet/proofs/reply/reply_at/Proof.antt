@@ -5,9 +5,7 @@ use Rattle.packet.proofs.reply.reply_at.Statement.{statement}
 use Rattle.packet.proofs.reply.reply_at.Tie as tie
 
 returns : tie.Need-returns
-returns c =
-    let a = c .before .before .args in
-    sym (reply-missing (a .bytes .now) (a .at) (a .asked) (c .if1 .taken))
+returns c = sym (reply-missing _ _ _ (c .if1 .taken))
 
 shared-slice-read-response : tie.Need-shared-slice-read-response
 shared-slice-read-response c = search needs
@@ -17,8 +15,7 @@ reserved-requires c κs = search needs
 
 returns-2 : tie.Need-returns-2
 returns-2 c =
-    let a = c .before .before .before .before .before .args in
-    sym (reply-from (a .bytes .now) (a .at) (a .asked) (c .before .before .before .if1 .left) ∙ rw (← (c .before .reserved .ensures), c .if2 .taken))
+    sym (reply-from _ _ _ (c .before .before .before .if1 .left) ∙ rw (← (c .before .reserved .ensures), c .if2 .taken))
 
 add-after-response : tie.Need-add-after-response
 add-after-response c = search needs
@@ -28,9 +25,8 @@ after-response-requires c κs = search needs
 
 returns-3 : tie.Need-returns-3
 returns-3 c =
-    let a = c .before .before .before .before .before .before .args in
     c .after-response .ensures
-    ∙ sym (reply-from (a .bytes .now) (a .at) (a .asked) (c .before .before .before .before .if1 .left) ∙ rw (← (c .before .before .reserved .ensures), c .before .if2 .left))
+    ∙ sym (reply-from _ _ _ (c .before .before .before .before .if1 .left) ∙ rw (← (c .before .before .reserved .ensures), c .before .if2 .left))
 
 pub reply-at-spec : {M : Type 1} → statement M
 reply-at-spec =
