@@ -48,10 +48,8 @@ pub(crate) fn call(
 
 // A call that is lent n bytes.
 fn run(ends: Ends, call: Call, bytes: &[u8], n: usize, page: &mut [u8]) -> Answered {
-    if page.len() < n {
-        return calls::run(ends, call, bytes, &mut *page);
-    }
-    calls::run(ends, call, bytes, &mut page[0..n])
+    let room = lending::within(n, page.len());
+    calls::run(ends, call, bytes, &mut page[0..room])
 }
 
 fn caller(call: Call) -> End {

@@ -3,6 +3,7 @@ use crate::asked::Lent;
 use crate::buffers::Output;
 use crate::print;
 use packet::PACKET_LIMIT;
+ghost use Prim.Native.Nat.{_≤_};
 
 // What a byte of an output holds before the call, so that it can be told afterwards whether it is as it was.
 const UNTOUCHED: u8 = 0xEE;
@@ -17,6 +18,16 @@ pub(crate) fn length(lent: Lent, room: usize) -> usize {
         Lent::Room => room,
         Lent::Into(n) => n,
     }
+}
+
+// No more than there is.
+pub(crate) fn within(n: usize, most: usize) -> usize
+    ensures { λ r. ⌜ r ≤ most ⌝ }
+{
+    if n < most {
+        return n;
+    }
+    most
 }
 
 fn count_untouched(s: &[u8]) -> u64 {

@@ -34,10 +34,8 @@ pub(crate) fn packet(
 
 // A packet written to n bytes.
 fn written(id: u8, access: Access, bytes: &[u8], n: usize, page: &mut [u8]) -> Written {
-    if page.len() < n {
-        return packet::write(id, access, bytes, &mut *page);
-    }
-    packet::write(id, access, bytes, &mut page[0..n])
+    let room = lending::within(n, page.len());
+    packet::write(id, access, bytes, &mut page[0..room])
 }
 
 // A packet, or behind `into N` its length.
