@@ -147,29 +147,29 @@ fn without_bytes(name: &[u8], s: &[u8]) -> Asked {
     if check::same(name, b"issue-many") {
         return many(s);
     }
+    if check::same(name, b"fresh") {
+        return arguments::ended(Action::Effect(Effect::Fresh), s);
+    }
     match alone(name) {
-        Found::Of(action) => arguments::ended(action, s),
+        Found::Of(told) => arguments::ended(Action::Say(Said::Told(told)), s),
         Found::Unknown => of_registers(name, s),
     }
 }
 
 enum Found {
-    Of(Action),
+    Of(Told),
     Unknown,
 }
 
 fn alone(name: &[u8]) -> Found {
     if check::same(name, b"show") {
-        return Found::Of(Action::Say(Said::Told(Told::Show)));
+        return Found::Of(Told::Show);
     }
     if check::same(name, b"describe") {
-        return Found::Of(Action::Say(Said::Told(Told::Describe)));
+        return Found::Of(Told::Describe);
     }
     if check::same(name, b"word") {
-        return Found::Of(Action::Say(Said::Told(Told::Progress)));
-    }
-    if check::same(name, b"fresh") {
-        return Found::Of(Action::Effect(Effect::Fresh));
+        return Found::Of(Told::Progress);
     }
     Found::Unknown
 }

@@ -31,6 +31,12 @@ use world::World;
 // A script's longest line.
 const LINE_LIMIT: usize = 4096;
 
+// How many bytes were read, and whether the input has ended.
+struct Input {
+    len: usize,
+    over: bool,
+}
+
 // More of the line that is being read.
 fn longer(notes: Notes, more: &[u8], line: &mut Page) -> Notes {
     let mut next = notes;
@@ -69,15 +75,16 @@ fn read(
         if bytes.len() <= end {
             return world;
         }
-        let begun = whole::begun(notes, line, out);
-        let asked = whole::asked(begun, line, &mut *memory);
+        let begun = whole::begin(notes, line, &mut *memory, out);
+        let asked = begun.asked;
         let action = asked.action;
-        world.notes = begun;
+        let counted = begun.notes;
+        world.notes = counted;
         if let Action::Call(call) = action {
-            let done = ends::call(world.ends, begun, call, asked, &mut *memory, &mut *out);
+            let done = ends::call(world.ends, counted, call, asked, &mut *memory, &mut *out);
             let after = done.ends;
-            world.ends = after;
             let told = done.notes;
+            world.ends = after;
             world.notes = told;
         } else {
             world = perform::perform(world, asked, memory, &mut *out);
@@ -93,26 +100,39 @@ fn read(
     world
 }
 
-// The input has ended. A last line may have no newline behind it.
-fn finish(world: World, line: &mut Page, memory: &mut Memory, out: &mut Output) -> World {
-    let mut end = read(world, b"\n", &mut *line, &mut *memory, &mut *out);
-    let at = whole::tally(end.notes, &mut *out);
-    print::flush(out, at);
-    end.notes.over = true;
-    end
+// At the end of the input one newline is read, since a last line may have none.
+fn read_input(input: &mut Output) -> Input {
+    let got = libc::read(STDIN_FILENO, &mut *input);
+    let n = io::count(got, input);
+    if n == 0 {
+        input[0] = b'\n';
+        return Input { len: 1, over: true };
+    }
+    Input {
+        len: n,
+        over: false,
+    }
+}
+
+fn first(input: &Output, len: usize) -> &[u8] {
+    text::part(input, 0, len)
 }
 
 // One read. What it prints is written before the next one, so that whoever types sees each answer at once.
 fn turn(world: World, line: &mut Page, memory: &mut Memory, out: &mut Output) -> World {
     let mut input = io::large_buffer();
-    let got = libc::read(STDIN_FILENO, &mut input);
-    let n = io::count(got, &input);
-    if n == 0 {
-        return finish(world, &mut *line, &mut *memory, &mut *out);
-    }
-    let mut next = read(world, &input[..n], &mut *line, &mut *memory, &mut *out);
-    let gathered = print::flush(out, next.notes.gathered);
+    let got = read_input(&mut input);
+    let mut next = read(
+        world,
+        first(&input, got.len),
+        &mut *line,
+        &mut *memory,
+        &mut *out,
+    );
+    let at = whole::tally(next.notes, got.over, &mut *out);
+    let gathered = print::flush(out, at);
     next.notes.gathered = gathered;
+    next.notes.over = got.over;
     next
 }
 

@@ -25,8 +25,14 @@ fn arrow(s: &[u8]) -> usize {
     s.len()
 }
 
-// The line has ended: what stands behind `#` is no part of it.
-pub(crate) fn begun(notes: Notes, line: &Page, out: &Output) -> Notes {
+// A line that has ended, and what it asks for.
+pub(crate) struct Begun {
+    pub notes: Notes,
+    pub asked: Asked,
+}
+
+// What stands behind `#` is no part of the line.
+pub(crate) fn begin(notes: Notes, line: &Page, memory: &mut Memory, out: &Output) -> Begun {
     let mut next = notes;
     let at = print::with_room(out, notes.gathered, ANSWER_LIMIT);
     next.gathered = at;
@@ -35,10 +41,13 @@ pub(crate) fn begun(notes: Notes, line: &Page, out: &Output) -> Notes {
     let len = text::find(text::part(line, 0, notes.len), 0, b'#');
     next.len = len;
     next.arrow = arrow(text::part(line, 0, len));
-    next
+    Begun {
+        notes: next,
+        asked: asked(next, line, &mut *memory),
+    }
 }
 
-pub(crate) fn asked(notes: Notes, line: &Page, memory: &mut Memory) -> Asked {
+fn asked(notes: Notes, line: &Page, memory: &mut Memory) -> Asked {
     if notes.too_long {
         return asked::wrong(Fault::TooLong);
     }
@@ -92,9 +101,12 @@ fn compared(notes: Notes, expected: &[u8], out: &mut Output) -> Notes {
 }
 
 // What is said at the end of a script that expects answers.
-pub(crate) fn tally(notes: Notes, out: &mut Output) -> usize {
+pub(crate) fn tally(notes: Notes, over: bool, out: &mut Output) -> usize {
     let at = notes.gathered;
     let n = [notes.same, notes.other];
+    if !over {
+        return at;
+    }
     if std::num::wrapping_add_u64(notes.same, notes.other) == 0 {
         return at;
     }

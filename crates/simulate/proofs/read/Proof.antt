@@ -24,11 +24,8 @@ longer-requires c κs = search needs
 returns : tie.Need-returns Inv-loop μ-loop
 returns c = search needs
 
-begun-requires : tie.Need-begun-requires Inv-loop μ-loop
-begun-requires c κs = search needs
-
-asked-requires : tie.Need-asked-requires Inv-loop μ-loop
-asked-requires c κs = search needs
+begin-requires : tie.Need-begin-requires Inv-loop μ-loop
+begin-requires c κs = search needs
 
 enum-known-action : tie.Need-enum-known-action Inv-loop μ-loop
 enum-known-action c = search needs
@@ -68,8 +65,7 @@ read-spec =
     part-requires
     longer-requires
     returns
-    begun-requires
-    asked-requires
+    begin-requires
     enum-known-action
     call-requires
     perform-requires
