@@ -75,13 +75,12 @@ fn read(
         if bytes.len() <= end {
             return world;
         }
-        let begun = whole::begin(notes, line, &mut *memory, out);
-        let asked = begun.asked;
+        let begun = whole::begun(notes, line, out);
+        let asked = whole::asked(begun, line, &mut *memory);
         let action = asked.action;
-        let counted = begun.notes;
-        world.notes = counted;
+        world.notes = begun;
         if let Action::Call(call) = action {
-            let done = ends::call(world.ends, counted, call, asked, &mut *memory, &mut *out);
+            let done = ends::call(world.ends, begun, call, asked, &mut *memory, &mut *out);
             let after = done.ends;
             let told = done.notes;
             world.ends = after;

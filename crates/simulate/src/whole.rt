@@ -25,14 +25,8 @@ fn arrow(s: &[u8]) -> usize {
     s.len()
 }
 
-// A line that has ended, and what it asks for.
-pub(crate) struct Begun {
-    pub notes: Notes,
-    pub asked: Asked,
-}
-
-// What stands behind `#` is no part of the line.
-pub(crate) fn begin(notes: Notes, line: &Page, memory: &mut Memory, out: &Output) -> Begun {
+// The line has ended: what stands behind `#` is no part of it.
+pub(crate) fn begun(notes: Notes, line: &Page, out: &Output) -> Notes {
     let mut next = notes;
     let at = print::with_room(out, notes.gathered, ANSWER_LIMIT);
     next.gathered = at;
@@ -41,13 +35,10 @@ pub(crate) fn begin(notes: Notes, line: &Page, memory: &mut Memory, out: &Output
     let len = text::find(text::part(line, 0, notes.len), 0, b'#');
     next.len = len;
     next.arrow = arrow(text::part(line, 0, len));
-    Begun {
-        notes: next,
-        asked: asked(next, line, &mut *memory),
-    }
+    next
 }
 
-fn asked(notes: Notes, line: &Page, memory: &mut Memory) -> Asked {
+pub(crate) fn asked(notes: Notes, line: &Page, memory: &mut Memory) -> Asked {
     if notes.too_long {
         return asked::wrong(Fault::TooLong);
     }

@@ -24,8 +24,11 @@ longer-requires c κs = search needs
 returns : tie.Need-returns Inv-loop μ-loop
 returns c = search needs
 
-begin-requires : tie.Need-begin-requires Inv-loop μ-loop
-begin-requires c κs = search needs
+begun-requires : tie.Need-begun-requires Inv-loop μ-loop
+begun-requires c κs = search needs
+
+asked-requires : tie.Need-asked-requires Inv-loop μ-loop
+asked-requires c κs = search needs
 
 enum-known-action : tie.Need-enum-known-action Inv-loop μ-loop
 enum-known-action c = search needs
@@ -65,7 +68,8 @@ read-spec =
     part-requires
     longer-requires
     returns
-    begin-requires
+    begun-requires
+    asked-requires
     enum-known-action
     call-requires
     perform-requires
