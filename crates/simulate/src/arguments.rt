@@ -11,7 +11,7 @@ use packet::PACKET_LIMIT;
 use text::DecimalRead;
 use text::HexByte;
 
-pub(crate) enum Number {
+pub(crate) enum NumberRead {
     Of(u64),
     Wrong(Fault),
 }
@@ -28,16 +28,16 @@ enum Ending {
 }
 
 // The number that a word writes, up to a limit.
-pub(crate) fn number_of(word: &[u8], limit: u64) -> Number {
+pub(crate) fn number_of(word: &[u8], limit: u64) -> NumberRead {
     match text::decimal(word) {
         DecimalRead::Of(n) => {
             if limit < n {
-                return Number::Wrong(Fault::OutOfRange);
+                return NumberRead::Wrong(Fault::OutOfRange);
             }
-            Number::Of(n)
+            NumberRead::Of(n)
         }
-        DecimalRead::NotDigits => Number::Wrong(Fault::NotANumber),
-        DecimalRead::TooLarge => Number::Wrong(Fault::OutOfRange),
+        DecimalRead::NotDigits => NumberRead::Wrong(Fault::NotANumber),
+        DecimalRead::TooLarge => NumberRead::Wrong(Fault::OutOfRange),
     }
 }
 
@@ -62,13 +62,13 @@ pub(crate) fn ended(action: Action, s: &[u8]) -> Asked {
 // into N
 fn into(s: &[u8]) -> Ending {
     match number_of(text::word(s), PACKET_LIMIT as u64) {
-        Number::Of(n) => {
+        NumberRead::Of(n) => {
             if text::after_word(s).len() == 0 {
                 return Ending::Of(Lent::Into(n as usize));
             }
             Ending::Wrong(Fault::TooManyWords)
         }
-        Number::Wrong(fault) => Ending::Wrong(fault),
+        NumberRead::Wrong(fault) => Ending::Wrong(fault),
     }
 }
 

@@ -72,7 +72,7 @@ pub(crate) enum Said {
 }
 
 // What changes something, and is no call at box or office.
-pub(crate) enum Effect {
+pub(crate) enum Task {
     Many(u16),
     Room(usize),
     Fresh,
@@ -81,7 +81,7 @@ pub(crate) enum Effect {
 
 pub(crate) enum Action {
     Call(Call),
-    Effect(Effect),
+    Task(Task),
     Say(Said),
 }
 

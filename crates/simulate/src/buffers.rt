@@ -1,7 +1,10 @@
 // The buffers that are lent from function to function: as arrays, since an array's length is known from its type.
 use crate::frames::MEMORY;
 
-pub(crate) type Page = [u8; 4096];
+// A script's longest line.
+pub(crate) const LINE_LIMIT: usize = 4096;
+
+pub(crate) type Page = [u8; LINE_LIMIT];
 
 pub(crate) type Output = [u8; 65536];
 

@@ -1,6 +1,6 @@
 // Frames of the link to bytes and back.
 use crate::arguments;
-use crate::arguments::Number;
+use crate::arguments::NumberRead;
 use crate::asked;
 use crate::asked::Action;
 use crate::asked::Asked;
@@ -40,7 +40,7 @@ pub(crate) fn encode(s: &[u8], memory: &mut Memory) -> Asked {
 // The frame that a text names; if it names none, the malformed one, which has no bytes.
 fn named(s: &[u8]) -> Frame {
     let rest = text::after_word(s);
-    let Number::Of(session) = arguments::number_of(text::word(rest), u32::MAX as u64) else {
+    let NumberRead::Of(session) = arguments::number_of(text::word(rest), u32::MAX as u64) else {
         return Frame::malformed();
     };
     of_session(
@@ -54,7 +54,7 @@ fn of_session(kind: &[u8], session: SessionId, s: &[u8]) -> Frame {
     if s.len() == 0 {
         return without_number(kind, session);
     }
-    let Number::Of(n) = arguments::number_of(text::word(s), u16::MAX as u64) else {
+    let NumberRead::Of(n) = arguments::number_of(text::word(s), u16::MAX as u64) else {
         return Frame::malformed();
     };
     numbered(kind, session, arguments::short(n), text::after_word(s))
@@ -99,7 +99,7 @@ fn order(session: SessionId, number: OrderNumber, s: &[u8]) -> Frame {
     if check::same(way, b"command") {
         return order_command(session, number, rest);
     }
-    let Number::Of(n) = arguments::number_of(rest, u16::MAX as u64) else {
+    let NumberRead::Of(n) = arguments::number_of(rest, u16::MAX as u64) else {
         return Frame::malformed();
     };
     let step = arguments::short(n);

@@ -1,6 +1,7 @@
 // The last frames that each end has written, each in a slot of its length and its bytes: the box's, then the office's. Behind
 // them stand the bytes that a line gives.
 use crate::asked::Range;
+use crate::buffers::LINE_LIMIT;
 use crate::buffers::Memory;
 use link::FRAME_LIMIT;
 
@@ -13,7 +14,7 @@ const HALF: usize = KEPT as usize * SLOT;
 // Where the bytes that a line gives begin.
 pub(crate) const GIVEN: usize = 2 * HALF;
 
-pub(crate) const MEMORY: usize = GIVEN + 4096;
+pub(crate) const MEMORY: usize = GIVEN + LINE_LIMIT;
 
 pub(crate) enum End {
     Box,

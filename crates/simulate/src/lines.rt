@@ -1,15 +1,15 @@
 // A line's call, by its first word.
 use crate::arguments;
-use crate::arguments::Number;
+use crate::arguments::NumberRead;
 use crate::asked;
 use crate::asked::Action;
 use crate::asked::Asked;
-use crate::asked::Effect;
 use crate::asked::Fault;
 use crate::asked::Heard;
 use crate::asked::Holder;
 use crate::asked::Made;
 use crate::asked::Said;
+use crate::asked::Task;
 use crate::asked::Told;
 use crate::buffers::Memory;
 use crate::carried;
@@ -45,7 +45,7 @@ pub(crate) fn read(s: &[u8], notes: Notes, memory: &mut Memory) -> Asked {
 }
 
 // The office's calls that take a number.
-enum Counted {
+enum OfficeCall {
     Raise,
     Lower,
     Resend,
@@ -54,38 +54,38 @@ enum Counted {
 
 fn with_number(name: &[u8], s: &[u8], memory: &mut Memory) -> Asked {
     if check::same(name, b"raise") {
-        return numbered(Counted::Raise, u16::MAX as u64, s);
+        return numbered(OfficeCall::Raise, u16::MAX as u64, s);
     }
     if check::same(name, b"lower") {
-        return numbered(Counted::Lower, u16::MAX as u64, s);
+        return numbered(OfficeCall::Lower, u16::MAX as u64, s);
     }
     if check::same(name, b"resend") {
-        return numbered(Counted::Resend, u16::MAX as u64, s);
+        return numbered(OfficeCall::Resend, u16::MAX as u64, s);
     }
     if check::same(name, b"open") {
-        return numbered(Counted::Open, u32::MAX as u64, s);
+        return numbered(OfficeCall::Open, u32::MAX as u64, s);
     }
     with_bytes(name, s, &mut *memory)
 }
 
-fn numbered(of: Counted, limit: u64, s: &[u8]) -> Asked {
+fn numbered(of: OfficeCall, limit: u64, s: &[u8]) -> Asked {
     match arguments::number_of(text::word(s), limit) {
-        Number::Of(n) => arguments::lent(
+        NumberRead::Of(n) => arguments::lent(
             Action::Call(call(of, n)),
             asked::given(0),
             text::after_word(s),
             Fault::TooManyWords,
         ),
-        Number::Wrong(fault) => asked::wrong(fault),
+        NumberRead::Wrong(fault) => asked::wrong(fault),
     }
 }
 
-fn call(of: Counted, n: u64) -> Call {
+fn call(of: OfficeCall, n: u64) -> Call {
     match of {
-        Counted::Raise => Call::Issue(Ask::Raise(arguments::short(n))),
-        Counted::Lower => Call::Issue(Ask::Lower(arguments::short(n))),
-        Counted::Resend => Call::Resend(OrderNumber(arguments::short(n))),
-        Counted::Open => Call::OpenSession(SessionId(arguments::long(n))),
+        OfficeCall::Raise => Call::Issue(Ask::Raise(arguments::short(n))),
+        OfficeCall::Lower => Call::Issue(Ask::Lower(arguments::short(n))),
+        OfficeCall::Resend => Call::Resend(OrderNumber(arguments::short(n))),
+        OfficeCall::Open => Call::OpenSession(SessionId(arguments::long(n))),
     }
 }
 
@@ -113,7 +113,7 @@ fn with_bytes(name: &[u8], s: &[u8], memory: &mut Memory) -> Asked {
 
 fn with_bytes_alone(name: &[u8], s: &[u8], memory: &mut Memory) -> Asked {
     if check::same(name, b"bus") {
-        let action = Action::Effect(Effect::Bus(Heard::All));
+        let action = Action::Task(Task::Bus(Heard::All));
         return arguments::with_bytes(action, s, &mut *memory);
     }
     if check::same(name, b"decode") {
@@ -148,7 +148,7 @@ fn without_bytes(name: &[u8], s: &[u8]) -> Asked {
         return many(s);
     }
     if check::same(name, b"fresh") {
-        return arguments::ended(Action::Effect(Effect::Fresh), s);
+        return arguments::ended(Action::Task(Task::Fresh), s);
     }
     match alone(name) {
         Found::Of(told) => arguments::ended(Action::Say(Said::Told(told)), s),
@@ -193,33 +193,33 @@ fn restart(s: &[u8], opened: u32) -> Asked {
         return asked::plain(Action::Call(Call::Restart(SessionId(opened))));
     }
     match arguments::number_of(text::word(s), u32::MAX as u64) {
-        Number::Of(n) => {
+        NumberRead::Of(n) => {
             let action = Action::Call(Call::Restart(SessionId(arguments::long(n))));
             arguments::ended(action, text::after_word(s))
         }
-        Number::Wrong(fault) => asked::wrong(fault),
+        NumberRead::Wrong(fault) => asked::wrong(fault),
     }
 }
 
 // issue-many N
 fn many(s: &[u8]) -> Asked {
     match arguments::number_of(text::word(s), u16::MAX as u64) {
-        Number::Of(n) => arguments::ended(
-            Action::Effect(Effect::Many(arguments::short(n))),
+        NumberRead::Of(n) => arguments::ended(
+            Action::Task(Task::Many(arguments::short(n))),
             text::after_word(s),
         ),
-        Number::Wrong(fault) => asked::wrong(fault),
+        NumberRead::Wrong(fault) => asked::wrong(fault),
     }
 }
 
 // room N
 fn room(s: &[u8]) -> Asked {
     match arguments::number_of(text::word(s), ROOM_LIMIT as u64) {
-        Number::Of(n) => arguments::ended(
-            Action::Effect(Effect::Room(n as usize)),
+        NumberRead::Of(n) => arguments::ended(
+            Action::Task(Task::Room(n as usize)),
             text::after_word(s),
         ),
-        Number::Wrong(fault) => asked::wrong(fault),
+        NumberRead::Wrong(fault) => asked::wrong(fault),
     }
 }
 
@@ -285,7 +285,7 @@ fn reply(s: &[u8], memory: &mut Memory) -> Asked {
 fn exchange(s: &[u8], memory: &mut Memory) -> Asked {
     match way_of(text::word(s)) {
         Way::Of(access) => arguments::with_bytes(
-            Action::Effect(Effect::Bus(Heard::Reply(access))),
+            Action::Task(Task::Bus(Heard::Reply(access))),
             text::after_word(s),
             &mut *memory,
         ),

@@ -21,15 +21,13 @@ mod whole;
 mod world;
 
 use asked::Action;
+use buffers::LINE_LIMIT;
 use buffers::Memory;
 use buffers::Output;
 use buffers::Page;
 use libc::STDIN_FILENO;
 use world::Notes;
 use world::World;
-
-// A script's longest line.
-const LINE_LIMIT: usize = 4096;
 
 // How many bytes were read, and whether the input has ended.
 struct Input {

@@ -2,12 +2,12 @@
 use crate::asked;
 use crate::asked::Action;
 use crate::asked::Asked;
-use crate::asked::Effect;
 use crate::asked::Heard;
 use crate::asked::Holder;
 use crate::asked::Lent;
 use crate::asked::Made;
 use crate::asked::Said;
+use crate::asked::Task;
 use crate::asked::Told;
 use crate::bench;
 use crate::buffers::Memory;
@@ -29,7 +29,7 @@ pub(crate) fn perform(world: World, asked: Asked, memory: &Memory, out: &mut Out
     let bytes = asked::bytes(memory, asked.bytes);
     match action {
         Action::Call(_) => world,
-        Action::Effect(effect) => changed(world, effect, bytes, &mut *out),
+        Action::Task(task) => changed(world, task, bytes, &mut *out),
         Action::Say(said) => {
             let lent = asked.lent;
             let at = say(&mut *out, world, said, lent, bytes);
@@ -44,12 +44,12 @@ fn gathered(world: World, at: usize) -> World {
     next
 }
 
-fn changed(world: World, effect: Effect, bytes: &[u8], out: &mut Output) -> World {
-    match effect {
-        Effect::Many(n) => many(world, n, &mut *out),
-        Effect::Room(n) => room(world, n, &mut *out),
-        Effect::Fresh => world::fresh(world::unwritten(ok(world.notes, &mut *out))),
-        Effect::Bus(heard) => bus(world, heard, bytes, &mut *out),
+fn changed(world: World, task: Task, bytes: &[u8], out: &mut Output) -> World {
+    match task {
+        Task::Many(n) => many(world, n, &mut *out),
+        Task::Room(n) => room(world, n, &mut *out),
+        Task::Fresh => world::fresh(world::unwritten(ok(world.notes, &mut *out))),
+        Task::Bus(heard) => bus(world, heard, bytes, &mut *out),
     }
 }
 
