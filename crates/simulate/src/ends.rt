@@ -64,36 +64,34 @@ fn caller(call: Call) -> End {
     }
 }
 
-fn kept(notes: Notes, end: End, frame: &[u8], memory: &mut Memory) -> Notes {
+fn kept(mut notes: Notes, end: End, frame: &[u8], memory: &mut Memory) -> Notes {
     if frame.len() == 0 {
         return notes;
     }
-    let mut next = notes;
     match end {
         End::Box => {
             frames::keep(&mut *memory, End::Box, notes.box_frames, frame);
-            next.box_frames = std::num::wrapping_add_u64(notes.box_frames, 1);
+            notes.box_frames = std::num::wrapping_add_u64(notes.box_frames, 1);
         }
         End::Office => {
             frames::keep(&mut *memory, End::Office, notes.office_frames, frame);
-            next.office_frames = std::num::wrapping_add_u64(notes.office_frames, 1);
+            notes.office_frames = std::num::wrapping_add_u64(notes.office_frames, 1);
         }
     }
-    next
+    notes
 }
 
 // The notes after a call, where the box has this session open.
-fn noted(notes: Notes, active: bool, session: u32, gathered: usize) -> Notes {
-    let mut next = notes;
-    next.gathered = gathered;
+fn noted(mut notes: Notes, active: bool, session: u32, gathered: usize) -> Notes {
+    notes.gathered = gathered;
     if !active {
-        return next;
+        return notes;
     }
     if session < notes.opened {
-        return next;
+        return notes;
     }
-    next.opened = session;
-    next
+    notes.opened = session;
+    notes
 }
 
 // issue-many N: so many orders to raise by 0, each confirmed at once by an ACK.

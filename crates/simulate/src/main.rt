@@ -36,35 +36,33 @@ struct Input {
 }
 
 // More of the line that is being read.
-fn longer(notes: Notes, more: &[u8], line: &mut Page) -> Notes {
-    let mut next = notes;
+fn longer(mut notes: Notes, more: &[u8], line: &mut Page) -> Notes {
     let len = notes.len;
     if notes.too_long {
-        return next;
+        return notes;
     }
     if LINE_LIMIT < len {
-        return next;
+        return notes;
     }
     if LINE_LIMIT - len < more.len() {
-        next.too_long = true;
-        next.len = 0;
-        return next;
+        notes.too_long = true;
+        notes.len = 0;
+        return notes;
     }
     base::store(more, &mut *line, len);
-    next.len = len + more.len();
-    next
+    notes.len = len + more.len();
+    notes
 }
 
 // The bytes of one read: each line that ends among them is done. A call changes both ends in place, since the whole world is
 // large.
 fn read(
-    start: World,
+    mut world: World,
     bytes: &[u8],
     line: &mut Page,
     memory: &mut Memory,
     out: &mut Output,
 ) -> World {
-    let mut world = start;
     let mut at: usize = 0;
     while at < bytes.len() {
         let end = text::find(bytes, at, b'\n');

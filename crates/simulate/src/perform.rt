@@ -38,10 +38,9 @@ pub(crate) fn perform(world: World, asked: Asked, memory: &Memory, out: &mut Out
     }
 }
 
-fn gathered(world: World, at: usize) -> World {
-    let mut next = world;
-    next.notes.gathered = at;
-    next
+fn gathered(mut world: World, at: usize) -> World {
+    world.notes.gathered = at;
+    world
 }
 
 fn changed(world: World, task: Task, bytes: &[u8], out: &mut Output) -> World {
@@ -53,37 +52,33 @@ fn changed(world: World, task: Task, bytes: &[u8], out: &mut Output) -> World {
     }
 }
 
-fn ok(notes: Notes, out: &mut Output) -> Notes {
-    let mut next = notes;
-    next.gathered = print::ok(&mut *out, notes.gathered);
-    next
+fn ok(mut notes: Notes, out: &mut Output) -> Notes {
+    notes.gathered = print::ok(&mut *out, notes.gathered);
+    notes
 }
 
 // issue-many N
-fn many(world: World, n: u16, out: &mut Output) -> World {
-    let mut next = world;
-    next.ends = ends::many(world.ends, n);
-    next.notes = ok(world.notes, &mut *out);
-    next
+fn many(mut world: World, n: u16, out: &mut Output) -> World {
+    world.ends = ends::many(world.ends, n);
+    world.notes = ok(world.notes, &mut *out);
+    world
 }
 
 // room N
-fn room(world: World, n: usize, out: &mut Output) -> World {
-    let mut next = world;
-    next.notes = ok(world.notes, &mut *out);
-    next.notes.room = n;
-    next
+fn room(mut world: World, n: usize, out: &mut Output) -> World {
+    world.notes = ok(world.notes, &mut *out);
+    world.notes.room = n;
+    world
 }
 
 // bus BYTES, exchange write BYTES, exchange read BYTES
-fn bus(world: World, heard: Heard, bytes: &[u8], out: &mut Output) -> World {
-    let mut next = world;
+fn bus(mut world: World, heard: Heard, bytes: &[u8], out: &mut Output) -> World {
     let mut sent = io::buffer();
-    next.bench = controller::exchange_all(world.bench, bytes, &mut sent);
+    world.bench = controller::exchange_all(world.bench, bytes, &mut sent);
     let heard_bytes = text::part(&sent, 0, bytes.len());
     let at = bench::told(&mut *out, world.notes.gathered, heard, heard_bytes);
-    next.notes.gathered = at;
-    next
+    world.notes.gathered = at;
+    world
 }
 
 fn say(out: &mut Output, world: World, said: Said, lent: Lent, bytes: &[u8]) -> usize {

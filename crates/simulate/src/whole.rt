@@ -26,16 +26,15 @@ fn arrow(s: &[u8]) -> usize {
 }
 
 // The line has ended: what stands behind `#` is no part of it.
-pub(crate) fn begun(notes: Notes, line: &Page, out: &Output) -> Notes {
-    let mut next = notes;
+pub(crate) fn begun(mut notes: Notes, line: &Page, out: &Output) -> Notes {
     let at = print::with_room(out, notes.gathered, ANSWER_LIMIT);
-    next.gathered = at;
-    next.answer = at;
-    next.line = std::num::wrapping_add_u64(notes.line, 1);
+    notes.gathered = at;
+    notes.answer = at;
+    notes.line = std::num::wrapping_add_u64(notes.line, 1);
     let len = text::find(text::part(line, 0, notes.len), 0, b'#');
-    next.len = len;
-    next.arrow = arrow(text::part(line, 0, len));
-    next
+    notes.len = len;
+    notes.arrow = arrow(text::part(line, 0, len));
+    notes
 }
 
 pub(crate) fn asked(notes: Notes, line: &Page, memory: &mut Memory) -> Asked {
@@ -47,17 +46,16 @@ pub(crate) fn asked(notes: Notes, line: &Page, memory: &mut Memory) -> Asked {
 }
 
 // The line is done, and the next one begins.
-pub(crate) fn ended(notes: Notes, line: &Page, out: &mut Output) -> Notes {
-    let mut next = notes;
+pub(crate) fn ended(mut notes: Notes, line: &Page, out: &mut Output) -> Notes {
     let len = notes.len;
-    next.len = 0;
-    next.too_long = false;
     let arrow = notes.arrow;
+    notes.len = 0;
+    notes.too_long = false;
     if len <= arrow {
-        return next;
+        return notes;
     }
     let expected = text::part(line, std::num::wrapping_add_usize(arrow, 3), len);
-    compared(next, trimmed(expected), &mut *out)
+    compared(notes, trimmed(expected), &mut *out)
 }
 
 fn end_of_text(s: &[u8]) -> usize {
@@ -78,17 +76,16 @@ fn trimmed(s: &[u8]) -> &[u8] {
 }
 
 // The answer ends in a newline.
-fn compared(notes: Notes, expected: &[u8], out: &mut Output) -> Notes {
+fn compared(mut notes: Notes, expected: &[u8], out: &mut Output) -> Notes {
     let at = notes.gathered;
-    let mut next = notes;
     let end = std::num::wrapping_sub_usize(at, 1);
     if check::same(text::part(out, notes.answer, end), expected) {
-        next.same = std::num::wrapping_add_u64(notes.same, 1);
-        return next;
+        notes.same = std::num::wrapping_add_u64(notes.same, 1);
+        return notes;
     }
-    next.other = std::num::wrapping_add_u64(notes.other, 1);
-    next.gathered = print::expected(&mut *out, at, notes.line, expected);
-    next
+    notes.other = std::num::wrapping_add_u64(notes.other, 1);
+    notes.gathered = print::expected(&mut *out, at, notes.line, expected);
+    notes
 }
 
 // What is said at the end of a script that expects answers.

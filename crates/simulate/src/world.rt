@@ -67,11 +67,10 @@ pub(crate) fn first() -> World {
 }
 
 // No frame written and no session opened.
-pub(crate) fn unwritten(notes: Notes) -> Notes {
-    let mut next = notes;
-    next.box_frames = 0;
-    next.office_frames = 0;
-    next.opened = 0;
-    next.room = FRAME_LIMIT;
-    next
+pub(crate) fn unwritten(mut notes: Notes) -> Notes {
+    notes.box_frames = 0;
+    notes.office_frames = 0;
+    notes.opened = 0;
+    notes.room = FRAME_LIMIT;
+    notes
 }
