@@ -8,7 +8,7 @@ pub(crate) fn told(out: &mut Output, at: usize, heard: Heard, sent: &[u8]) -> us
     match heard {
         Heard::All => print::named_bytes(&mut *out, at, b"bus", sent),
         Heard::Reply(access) => {
-            let said = packets::response(&mut *out, at, access, sent);
+            let said = packets::reply(&mut *out, at, b"response", b"", access, sent);
             print::end_line(&mut *out, said)
         }
     }

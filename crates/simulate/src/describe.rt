@@ -7,7 +7,6 @@ use session::Cab;
 use session::Ends;
 use session::Office;
 use session::Stage;
-use settings::Area;
 use settings::Settings;
 use settings::StatusBytes;
 use settings::Switches;
@@ -98,16 +97,15 @@ fn park(out: &mut Output, at: usize, n: u8) -> usize {
 
 // The registers of several numbers.
 fn areas(out: &mut Output, at: usize, held: Settings) -> usize {
-    let heater = [held.heater.khz as u64, held.heater.duty as u64];
-    let said = print::with(&mut *out, at, b", heater _ kHz at _ %", &heater);
+    let said = held::heater(&mut *out, at, b", heater _ kHz at _ %", held.heater);
     let across = held::offset(&mut *out, said, b", bezel ", held.bezel.horizontal);
     let down = held::offset(&mut *out, across, b" and ", held.bezel.vertical);
-    pixels(&mut *out, down, held.pixels)
-}
-
-fn pixels(out: &mut Output, at: usize, a: Area) -> usize {
-    let n = [a.x0 as u64, a.y0 as u64, a.x1 as u64, a.y1 as u64];
-    print::with(&mut *out, at, b", test pixels (_, _) to (_, _)", &n)
+    held::pixels(
+        &mut *out,
+        down,
+        b", test pixels (_, _) to (_, _)",
+        held.pixels,
+    )
 }
 
 fn status(out: &mut Output, at: usize, s: StatusBytes) -> usize {

@@ -15,9 +15,9 @@ pub(crate) fn held(out: &mut Output, at: usize, settings: Settings, register: Re
     match register {
         Register::Backlight => print::decimal(&mut *out, at, settings.backlight as u64),
         Register::Switch(switch) => switched(&mut *out, at, settings.switches, switch),
-        Register::Heater => heater(&mut *out, at, settings.heater),
+        Register::Heater => heater(&mut *out, at, b"_ _", settings.heater),
         Register::Bezel => bezel(&mut *out, at, settings.bezel),
-        Register::Pixels => pixels(&mut *out, at, settings.pixels),
+        Register::Pixels => pixels(&mut *out, at, b"_ _ _ _", settings.pixels),
         Register::Status => status(&mut *out, at, settings.status),
     }
 }
@@ -32,9 +32,10 @@ fn switched(out: &mut Output, at: usize, held: Switches, switch: Switch) -> usiz
     print::decimal(&mut *out, at, n as u64)
 }
 
-fn heater(out: &mut Output, at: usize, h: HeaterDrive) -> usize {
+// Words, with the frequency and the duty among them.
+pub(crate) fn heater(out: &mut Output, at: usize, words: &[u8], h: HeaterDrive) -> usize {
     let n = [h.khz as u64, h.duty as u64];
-    print::with(&mut *out, at, b"_ _", &n)
+    print::with(&mut *out, at, words, &n)
 }
 
 fn bezel(out: &mut Output, at: usize, o: Offsets) -> usize {
@@ -42,9 +43,10 @@ fn bezel(out: &mut Output, at: usize, o: Offsets) -> usize {
     offset(&mut *out, said, b" ", o.vertical)
 }
 
-fn pixels(out: &mut Output, at: usize, a: Area) -> usize {
+// Words, with the area's first and last column and row among them.
+pub(crate) fn pixels(out: &mut Output, at: usize, words: &[u8], a: Area) -> usize {
     let n = [a.x0 as u64, a.y0 as u64, a.x1 as u64, a.y1 as u64];
-    print::with(&mut *out, at, b"_ _ _ _", &n)
+    print::with(&mut *out, at, words, &n)
 }
 
 fn status(out: &mut Output, at: usize, s: StatusBytes) -> usize {

@@ -127,15 +127,21 @@ fn with_bytes_alone(name: &[u8], s: &[u8], memory: &mut Memory) -> Asked {
 }
 
 // The calls that say whether to write or to read.
+enum Accessing {
+    Packet,
+    Reply,
+    Exchange,
+}
+
 fn with_access(name: &[u8], s: &[u8], memory: &mut Memory) -> Asked {
     if check::same(name, b"packet") {
-        return packet(s, &mut *memory);
+        return accessed(Accessing::Packet, s, &mut *memory);
     }
     if check::same(name, b"reply") {
-        return reply(s, &mut *memory);
+        return accessed(Accessing::Reply, s, &mut *memory);
     }
     if check::same(name, b"exchange") {
-        return exchange(s, &mut *memory);
+        return accessed(Accessing::Exchange, s, &mut *memory);
     }
     without_bytes(name, s)
 }
@@ -250,15 +256,29 @@ fn way_of(word: &[u8]) -> Way {
     Way::Unknown
 }
 
-// packet write ID BYTES, packet read ID BYTES
-fn packet(s: &[u8], memory: &mut Memory) -> Asked {
+// packet write ID BYTES, reply write BYTES, exchange write BYTES, and the same with read
+fn accessed(of: Accessing, s: &[u8], memory: &mut Memory) -> Asked {
     match way_of(text::word(s)) {
-        Way::Of(access) => packet_of(access, text::after_word(s), &mut *memory),
+        Way::Of(access) => with_way(of, access, text::after_word(s), &mut *memory),
         Way::Unknown => asked::wrong(Fault::NotACall),
     }
 }
 
-fn packet_of(access: Access, s: &[u8], memory: &mut Memory) -> Asked {
+fn with_way(of: Accessing, access: Access, s: &[u8], memory: &mut Memory) -> Asked {
+    match of {
+        Accessing::Packet => packet(access, s, &mut *memory),
+        Accessing::Reply => {
+            let action = Action::Say(Said::Made(Made::Reply(access)));
+            arguments::with_bytes(action, s, &mut *memory)
+        }
+        Accessing::Exchange => {
+            let action = Action::Task(Task::Bus(Heard::Reply(access)));
+            arguments::with_bytes(action, s, &mut *memory)
+        }
+    }
+}
+
+fn packet(access: Access, s: &[u8], memory: &mut Memory) -> Asked {
     match text::hex_byte(text::word(s)) {
         HexByte::Of(id) => arguments::lent_with_bytes(
             Action::Say(Said::Made(Made::Packet(id, access))),
@@ -266,29 +286,5 @@ fn packet_of(access: Access, s: &[u8], memory: &mut Memory) -> Asked {
             &mut *memory,
         ),
         HexByte::NotHex => asked::wrong(Fault::NotBytes),
-    }
-}
-
-// reply write BYTES, reply read BYTES
-fn reply(s: &[u8], memory: &mut Memory) -> Asked {
-    match way_of(text::word(s)) {
-        Way::Of(access) => arguments::with_bytes(
-            Action::Say(Said::Made(Made::Reply(access))),
-            text::after_word(s),
-            &mut *memory,
-        ),
-        Way::Unknown => asked::wrong(Fault::NotACall),
-    }
-}
-
-// exchange write BYTES, exchange read BYTES
-fn exchange(s: &[u8], memory: &mut Memory) -> Asked {
-    match way_of(text::word(s)) {
-        Way::Of(access) => arguments::with_bytes(
-            Action::Task(Task::Bus(Heard::Reply(access))),
-            text::after_word(s),
-            &mut *memory,
-        ),
-        Way::Unknown => asked::wrong(Fault::NotACall),
     }
 }

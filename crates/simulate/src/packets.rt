@@ -52,25 +52,21 @@ fn told(out: &mut Output, at: usize, lent: Lent, packet: &[u8]) -> usize {
     }
 }
 
-// reply write BYTES, reply read BYTES
-pub(crate) fn reply(out: &mut Output, at: usize, access: Access, s: &[u8]) -> usize {
+// The first reply among the bytes: a word, what was found, and words with the place where it ends.
+pub(crate) fn reply(
+    out: &mut Output,
+    at: usize,
+    word: &[u8],
+    end: &[u8],
+    access: Access,
+    s: &[u8],
+) -> usize {
     match packet::read_reply(access, s) {
         ReplyRead::Whole(r) => {
-            let said = print::all(&mut *out, at, b"reply");
+            let said = print::all(&mut *out, at, word);
             let told = found(&mut *out, said, r, s);
-            let end = [r.end as u64];
-            print::with(&mut *out, told, b" end _", &end)
-        }
-        ReplyRead::Refused(r) => print::refused(&mut *out, at, r.number()),
-    }
-}
-
-// The reply among the bytes that a controller sent.
-pub(crate) fn response(out: &mut Output, at: usize, access: Access, s: &[u8]) -> usize {
-    match packet::read_reply(access, s) {
-        ReplyRead::Whole(r) => {
-            let said = print::all(&mut *out, at, b"response");
-            found(&mut *out, said, r, s)
+            let n = [r.end as u64];
+            print::with(&mut *out, told, end, &n)
         }
         ReplyRead::Refused(r) => print::refused(&mut *out, at, r.number()),
     }

@@ -119,7 +119,7 @@ fn make(out: &mut Output, at: usize, made: Made, lent: Lent, bytes: &[u8]) -> us
     match made {
         Made::Packet(id, access) => packets::packet(&mut *out, at, id, access, lent, bytes),
         Made::Reply(access) => {
-            let said = packets::reply(&mut *out, at, access, bytes);
+            let said = packets::reply(&mut *out, at, b"reply", b" end _", access, bytes);
             print::end_line(&mut *out, said)
         }
         Made::Encoded => print::named_bytes(&mut *out, at, b"frame", bytes),
