@@ -75,14 +75,21 @@ fn read(
         let asked = whole::asked(begun, line, &mut *memory);
         let action = asked.action;
         world.notes = begun;
-        if let Action::Call(call) = action {
-            let done = ends::call(world.ends, begun, call, asked, &mut *memory, &mut *out);
-            let after = done.ends;
-            let told = done.notes;
-            world.ends = after;
-            world.notes = told;
-        } else {
-            world = perform::perform(world, asked, memory, &mut *out);
+        match action {
+            Action::Call(call) => {
+                let done = ends::call(world.ends, begun, call, asked, &mut *memory, &mut *out);
+                let after = done.ends;
+                let told = done.notes;
+                world.ends = after;
+                world.notes = told;
+            }
+            Action::Task(task) => {
+                world = perform::perform(world, task, asked, memory, &mut *out);
+            }
+            Action::Say(said) => {
+                let at = perform::say(&mut *out, world, said, asked, memory);
+                world.notes.gathered = at;
+            }
         }
         world.notes = whole::ended(world.notes, line, &mut *out);
         let next = std::num::wrapping_add_usize(end, 1);

@@ -1,6 +1,5 @@
 // What a line asks for is done, and its answer printed. The calls at box and office are in ends.
 use crate::asked;
-use crate::asked::Action;
 use crate::asked::Asked;
 use crate::asked::Heard;
 use crate::asked::Holder;
@@ -24,31 +23,18 @@ use crate::world::Notes;
 use crate::world::World;
 use settings::Settings;
 
-pub(crate) fn perform(world: World, asked: Asked, memory: &Memory, out: &mut Output) -> World {
-    let action = asked.action;
-    let bytes = asked::bytes(memory, asked.bytes);
-    match action {
-        Action::Call(_) => world,
-        Action::Task(task) => changed(world, task, bytes, &mut *out),
-        Action::Say(said) => {
-            let lent = asked.lent;
-            let at = say(&mut *out, world, said, lent, bytes);
-            gathered(world, at)
-        }
-    }
-}
-
-fn gathered(mut world: World, at: usize) -> World {
-    world.notes.gathered = at;
-    world
-}
-
-fn changed(world: World, task: Task, bytes: &[u8], out: &mut Output) -> World {
+pub(crate) fn perform(
+    world: World,
+    task: Task,
+    asked: Asked,
+    memory: &Memory,
+    out: &mut Output,
+) -> World {
     match task {
         Task::Many(n) => many(world, n, &mut *out),
         Task::Room(n) => room(world, n, &mut *out),
         Task::Fresh => world::fresh(world::unwritten(ok(world.notes, &mut *out))),
-        Task::Bus(heard) => bus(world, heard, bytes, &mut *out),
+        Task::Bus(heard) => bus(world, heard, asked::bytes(memory, asked.bytes), &mut *out),
     }
 }
 
@@ -81,13 +67,22 @@ fn bus(mut world: World, heard: Heard, bytes: &[u8], out: &mut Output) -> World 
     world
 }
 
-fn say(out: &mut Output, world: World, said: Said, lent: Lent, bytes: &[u8]) -> usize {
+pub(crate) fn say(
+    out: &mut Output,
+    world: World,
+    said: Said,
+    asked: Asked,
+    memory: &Memory,
+) -> usize {
     let at = world.notes.gathered;
     match said {
         Said::Nothing => at,
         Said::Wrong(fault) => print::wrong(&mut *out, at, world.notes.line, fault),
         Said::Told(told) => tell(&mut *out, world, told),
-        Said::Made(made) => make(&mut *out, at, made, lent, bytes),
+        Said::Made(made) => {
+            let lent = asked.lent;
+            make(&mut *out, at, made, lent, asked::bytes(memory, asked.bytes))
+        }
     }
 }
 

@@ -4,10 +4,10 @@ use Rattle.simulate.proofs.read.Statement.{statement}
 use Rattle.simulate.proofs.read.Tie as tie
 
 abbrev Inv-loop : tie.InvT-loop
-Inv-loop bytes line₀ memory₀ out₀ world₀ at₀ line memory out world at = Unit {0}
+Inv-loop world₀ bytes line₀ memory₀ out₀ at₀ world line memory out at = Unit {0}
 
 abbrev μ-loop : tie.MeasureT-loop
-μ-loop bytes line₀ memory₀ out₀ world₀ at₀ line memory out world at = 18446744073709551616 - at
+μ-loop world₀ bytes line₀ memory₀ out₀ at₀ world line memory out at = 18446744073709551616 - at
 
 loop-holds : tie.Need-loop-holds Inv-loop μ-loop
 loop-holds c = search needs
@@ -36,8 +36,17 @@ enum-known-action c = search needs
 call-requires : tie.Need-call-requires Inv-loop μ-loop
 call-requires c κs = search needs
 
+enum-known-action-2 : tie.Need-enum-known-action-2 Inv-loop μ-loop
+enum-known-action-2 c = search needs
+
 perform-requires : tie.Need-perform-requires Inv-loop μ-loop
 perform-requires c κs = search needs
+
+enum-known-action-3 : tie.Need-enum-known-action-3 Inv-loop μ-loop
+enum-known-action-3 c = search needs
+
+say-requires : tie.Need-say-requires Inv-loop μ-loop
+say-requires c κs = search needs
 
 ended-requires : tie.Need-ended-requires Inv-loop μ-loop
 ended-requires c κs = search needs
@@ -72,7 +81,10 @@ read-spec =
     asked-requires
     enum-known-action
     call-requires
+    enum-known-action-2
     perform-requires
+    enum-known-action-3
+    say-requires
     ended-requires
     wrapping-add-usize-requires
     returns-2
