@@ -17,7 +17,8 @@ pub(crate) struct Notes {
     // How much of what is printed is gathered and not written yet, and where the answer to this line begins.
     pub gathered: usize,
     pub answer: usize,
-    // The lines that have ended. Of the next one, len bytes stand in its buffer, unless it is too long; in one that has ended, ` ->` stands at arrow, or at len.
+    // The lines that have ended. Of the next one, len bytes stand in its buffer, unless it is too long. In one that has ended,
+    // ` ->` stands at arrow, or arrow is len.
     pub line: u64,
     pub len: usize,
     pub too_long: bool,
