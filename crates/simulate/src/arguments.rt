@@ -27,6 +27,26 @@ enum Ending {
     Wrong(Fault),
 }
 
+// Which word of a row this one is, counted from 0; how many they are where it is none.
+pub(crate) fn which(word: &[u8], row: &[u8]) -> usize {
+    let mut n: usize = 0;
+    let mut at: usize = 0;
+    while at < row.len() {
+        let end = text::find(row, at, b' ');
+        if check::same(word, text::part(row, at, end)) {
+            return n;
+        }
+        n = std::num::wrapping_add_usize(n, 1);
+        let next = std::num::wrapping_add_usize(end, 1);
+        // never so: the test shows that the loop ends
+        if next <= at {
+            return n;
+        }
+        at = next;
+    }
+    n
+}
+
 // The number that a word writes, up to a limit.
 pub(crate) fn number_of(word: &[u8], limit: u64) -> NumberRead {
     match text::decimal(word) {

@@ -71,28 +71,24 @@ fn settings(out: &mut Output, at: usize, held: Settings) -> usize {
 
 fn switches(out: &mut Output, at: usize, one: Switches) -> usize {
     let modes = [one.splash as u64, one.strength as u64];
-    let on = master(&mut *out, at, one.master);
-    let still = park(&mut *out, on, one.park);
+    let on = one.master != 0;
+    let parked = one.park != 0;
+    let said = print::all(
+        &mut *out,
+        at,
+        print::nth(b", master off|, master on", on as usize),
+    );
+    let still = print::all(
+        &mut *out,
+        said,
+        print::nth(b", not parked|, parked", parked as usize),
+    );
     print::with(
         &mut *out,
         still,
         b", splash mode _, drive strength _",
         &modes,
     )
-}
-
-fn master(out: &mut Output, at: usize, n: u8) -> usize {
-    if n == 0 {
-        return print::all(&mut *out, at, b", master off");
-    }
-    print::all(&mut *out, at, b", master on")
-}
-
-fn park(out: &mut Output, at: usize, n: u8) -> usize {
-    if n == 0 {
-        return print::all(&mut *out, at, b", not parked");
-    }
-    print::all(&mut *out, at, b", parked")
 }
 
 // The registers of several numbers.

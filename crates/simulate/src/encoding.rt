@@ -1,6 +1,7 @@
 // Frames of the link to bytes and back.
 use crate::arguments;
 use crate::arguments::NumberRead;
+use crate::arguments::which;
 use crate::asked;
 use crate::asked::Action;
 use crate::asked::Asked;
@@ -61,13 +62,11 @@ fn of_session(kind: &[u8], session: SessionId, s: &[u8]) -> Frame {
 }
 
 fn without_number(kind: &[u8], session: SessionId) -> Frame {
-    if check::same(kind, b"open") {
-        return Frame::opening(session);
+    match which(kind, b"open welcome") {
+        0 => Frame::opening(session),
+        1 => Frame::welcome(session, Settings::fresh()),
+        _ => Frame::malformed(),
     }
-    if check::same(kind, b"welcome") {
-        return Frame::welcome(session, Settings::fresh());
-    }
-    Frame::malformed()
 }
 
 fn numbered(kind: &[u8], session: SessionId, n: u16, s: &[u8]) -> Frame {
@@ -129,20 +128,30 @@ fn commanded(command: u8, body: &Page, len: usize) -> Change {
     Change::command(command, text::part(body, 0, len))
 }
 
+fn kind_place(kind: Kind) -> usize {
+    match kind {
+        Kind::Malformed => 0,
+        Kind::Opening => 1,
+        Kind::Welcome => 2,
+        Kind::Order => 3,
+        Kind::Ack => 4,
+        Kind::Refuse(_) => 5,
+    }
+}
+
+// The number that a frame has beside its session.
+fn second_number(kind: Kind, number: OrderNumber) -> u64 {
+    if let Kind::Refuse(refusal) = kind {
+        return refusal as u64;
+    }
+    number.0 as u64
+}
+
 // decode BYTES
 pub(crate) fn decoded(out: &mut Output, at: usize, bytes: &[u8]) -> usize {
     let frame = link::decode(bytes);
     let kind = frame.kind;
-    let n = [frame.session.0 as u64, frame.number.0 as u64];
-    match kind {
-        Kind::Malformed => print::all(&mut *out, at, b"malformed"),
-        Kind::Opening => print::with(&mut *out, at, b"open _", &n),
-        Kind::Welcome => print::with(&mut *out, at, b"welcome _", &n),
-        Kind::Order => print::with(&mut *out, at, b"order _ _", &n),
-        Kind::Ack => print::with(&mut *out, at, b"ack _ _", &n),
-        Kind::Refuse(r) => {
-            let said = print::with(&mut *out, at, b"refuse _ ", &n);
-            print::decimal(&mut *out, said, r as u64)
-        }
-    }
+    let n = [frame.session.0 as u64, second_number(kind, frame.number)];
+    let row = b"malformed|open _|welcome _|order _ _|ack _ _|refuse _ _";
+    print::with(&mut *out, at, print::nth(row, kind_place(kind)), &n)
 }

@@ -8,7 +8,6 @@ use crate::frames::End;
 use crate::lending;
 use crate::print;
 use crate::world::Notes;
-use calls::Answered;
 use calls::Call;
 use frame::Ask;
 use frame::Frame;
@@ -32,24 +31,19 @@ pub(crate) fn call(
     let lent = asked.lent;
     let n = lending::length(lent, notes.room);
     let mut page = lending::untouched();
-    let done = run(ends, call, asked::bytes(memory, asked.bytes), n, &mut page);
+    let bytes = asked::bytes(memory, asked.bytes);
+    let done = calls::run(ends, call, bytes, &mut page[0..n]);
     let verdict = done.verdict;
     let len = done.len;
-    let frame = text::part(&page, 0, len);
+    let frame = lending::part(&page, 0, len);
     let answered = print::answer(&mut *out, notes.gathered, verdict, frame);
-    let end = lending::told(&mut *out, answered, lent, text::part(&page, len, n));
+    let end = lending::told(&mut *out, answered, lent, lending::part(&page, len, n));
     let kept = kept(notes, caller(call), frame, &mut *memory);
     let after = done.ends;
     Called {
         ends: after,
         notes: noted(kept, after.cab.active, after.cab.highest.0, end),
     }
-}
-
-// A call that is lent n bytes.
-fn run(ends: Ends, call: Call, bytes: &[u8], n: usize, page: &mut [u8]) -> Answered {
-    let room = lending::within(n, page.len());
-    calls::run(ends, call, bytes, &mut page[0..room])
 }
 
 fn caller(call: Call) -> End {

@@ -4,30 +4,38 @@ use crate::buffers::Output;
 use crate::print;
 use packet::PACKET_LIMIT;
 ghost use Prim.Native.Nat.{_≤_};
+ghost use Rattle.packet.specs.Packet.{packet-limit};
 
 // What a byte of an output holds before the call, so that it can be told afterwards whether it is as it was.
 const UNTOUCHED: u8 = 0xEE;
 
-pub(crate) fn untouched() -> [u8; PACKET_LIMIT] {
+pub(crate) type Lending = [u8; PACKET_LIMIT];
+
+pub(crate) fn untouched() -> Lending {
     [UNTOUCHED; PACKET_LIMIT]
 }
 
-// How much is lent.
-pub(crate) fn length(lent: Lent, room: usize) -> usize {
+pub(crate) fn part(page: &Lending, from: usize, to: usize) -> &[u8] {
+    text::part(page, from, to)
+}
+
+// How much is lent, and no more than there is.
+pub(crate) fn length(lent: Lent, room: usize) -> usize
+    ensures { λ r. ⌜ r ≤ packet-limit ⌝ }
+{
     match lent {
-        Lent::Room => room,
-        Lent::Into(n) => n,
+        Lent::Room => within(room),
+        Lent::Into(n) => within(n),
     }
 }
 
-// No more than there is.
-pub(crate) fn within(n: usize, most: usize) -> usize
-    ensures { λ r. ⌜ r ≤ most ⌝ }
+fn within(n: usize) -> usize
+    ensures { λ r. ⌜ r ≤ packet-limit ⌝ }
 {
-    if n < most {
+    if n < PACKET_LIMIT {
         return n;
     }
-    most
+    PACKET_LIMIT
 }
 
 fn count_untouched(s: &[u8]) -> u64 {

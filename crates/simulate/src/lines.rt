@@ -1,6 +1,7 @@
 // A line's call, by its first word.
 use crate::arguments;
 use crate::arguments::NumberRead;
+use crate::arguments::which;
 use crate::asked;
 use crate::asked::Action;
 use crate::asked::Asked;
@@ -32,16 +33,12 @@ pub(crate) fn read(s: &[u8], notes: Notes, memory: &mut Memory) -> Asked {
     }
     let name = text::word(s);
     let rest = text::after_word(s);
-    if check::same(name, b"to-box") {
-        return carried::carried(End::Office, notes.office_frames, rest, memory);
+    match which(name, b"to-box to-office restart") {
+        0 => carried::carried(End::Office, notes.office_frames, rest, memory),
+        1 => carried::carried(End::Box, notes.box_frames, rest, memory),
+        2 => restart(rest, notes.opened),
+        _ => with_number(name, rest, &mut *memory),
     }
-    if check::same(name, b"to-office") {
-        return carried::carried(End::Box, notes.box_frames, rest, memory);
-    }
-    if check::same(name, b"restart") {
-        return restart(rest, notes.opened);
-    }
-    with_number(name, rest, &mut *memory)
 }
 
 // The office's calls that take a number.
@@ -53,19 +50,13 @@ enum OfficeCall {
 }
 
 fn with_number(name: &[u8], s: &[u8], memory: &mut Memory) -> Asked {
-    if check::same(name, b"raise") {
-        return numbered(OfficeCall::Raise, u16::MAX as u64, s);
+    match which(name, b"raise lower resend open") {
+        0 => numbered(OfficeCall::Raise, u16::MAX as u64, s),
+        1 => numbered(OfficeCall::Lower, u16::MAX as u64, s),
+        2 => numbered(OfficeCall::Resend, u16::MAX as u64, s),
+        3 => numbered(OfficeCall::Open, u32::MAX as u64, s),
+        _ => with_bytes(name, s, &mut *memory),
     }
-    if check::same(name, b"lower") {
-        return numbered(OfficeCall::Lower, u16::MAX as u64, s);
-    }
-    if check::same(name, b"resend") {
-        return numbered(OfficeCall::Resend, u16::MAX as u64, s);
-    }
-    if check::same(name, b"open") {
-        return numbered(OfficeCall::Open, u32::MAX as u64, s);
-    }
-    with_bytes(name, s, &mut *memory)
 }
 
 fn numbered(of: OfficeCall, limit: u64, s: &[u8]) -> Asked {
@@ -89,41 +80,32 @@ fn call(of: OfficeCall, n: u64) -> Call {
     }
 }
 
-// The calls that take bytes, or none.
+// The calls that take bytes, or none, and may be lent an output of their own.
 fn with_bytes(name: &[u8], s: &[u8], memory: &mut Memory) -> Asked {
-    if check::same(name, b"reopen") {
-        return arguments::lent(
+    match which(name, b"command box office reopen") {
+        0 => command(s, &mut *memory),
+        1 => arguments::lent_with_bytes(Action::Call(Call::BoxFrame), s, &mut *memory),
+        2 => arguments::lent_with_bytes(Action::Call(Call::OfficeFrame), s, &mut *memory),
+        3 => arguments::lent(
             Action::Call(Call::Reopen),
             asked::given(0),
             s,
             Fault::TooManyWords,
-        );
+        ),
+        _ => with_bytes_alone(name, s, &mut *memory),
     }
-    if check::same(name, b"command") {
-        return command(s, &mut *memory);
-    }
-    if check::same(name, b"box") {
-        return arguments::lent_with_bytes(Action::Call(Call::BoxFrame), s, &mut *memory);
-    }
-    if check::same(name, b"office") {
-        return arguments::lent_with_bytes(Action::Call(Call::OfficeFrame), s, &mut *memory);
-    }
-    with_bytes_alone(name, s, &mut *memory)
 }
 
 fn with_bytes_alone(name: &[u8], s: &[u8], memory: &mut Memory) -> Asked {
-    if check::same(name, b"bus") {
-        let action = Action::Task(Task::Bus(Heard::All));
-        return arguments::with_bytes(action, s, &mut *memory);
+    match which(name, b"bus decode encode") {
+        0 => arguments::with_bytes(Action::Task(Task::Bus(Heard::All)), s, &mut *memory),
+        1 => {
+            let action = Action::Say(Said::Made(Made::Decoded));
+            arguments::with_bytes(action, s, &mut *memory)
+        }
+        2 => encoding::encode(s, &mut *memory),
+        _ => with_access(name, s, &mut *memory),
     }
-    if check::same(name, b"decode") {
-        let action = Action::Say(Said::Made(Made::Decoded));
-        return arguments::with_bytes(action, s, &mut *memory);
-    }
-    if check::same(name, b"encode") {
-        return encoding::encode(s, &mut *memory);
-    }
-    with_access(name, s, &mut *memory)
 }
 
 // The calls that say whether to write or to read.
@@ -134,63 +116,33 @@ enum Accessing {
 }
 
 fn with_access(name: &[u8], s: &[u8], memory: &mut Memory) -> Asked {
-    if check::same(name, b"packet") {
-        return accessed(Accessing::Packet, s, &mut *memory);
+    match which(name, b"packet reply exchange") {
+        0 => accessed(Accessing::Packet, s, &mut *memory),
+        1 => accessed(Accessing::Reply, s, &mut *memory),
+        2 => accessed(Accessing::Exchange, s, &mut *memory),
+        _ => without_bytes(name, s),
     }
-    if check::same(name, b"reply") {
-        return accessed(Accessing::Reply, s, &mut *memory);
-    }
-    if check::same(name, b"exchange") {
-        return accessed(Accessing::Exchange, s, &mut *memory);
-    }
-    without_bytes(name, s)
 }
 
 fn without_bytes(name: &[u8], s: &[u8]) -> Asked {
-    if check::same(name, b"room") {
-        return room(s);
-    }
-    if check::same(name, b"issue-many") {
-        return many(s);
-    }
-    if check::same(name, b"fresh") {
-        return arguments::ended(Action::Task(Task::Fresh), s);
-    }
-    match alone(name) {
-        Found::Of(told) => arguments::ended(Action::Say(Said::Told(told)), s),
-        Found::Unknown => of_registers(name, s),
+    match which(name, b"room issue-many fresh") {
+        0 => room(s),
+        1 => many(s),
+        2 => arguments::ended(Action::Task(Task::Fresh), s),
+        _ => told(name, s),
     }
 }
 
-enum Found {
-    Of(Told),
-    Unknown,
-}
-
-fn alone(name: &[u8]) -> Found {
-    if check::same(name, b"show") {
-        return Found::Of(Told::Show);
+fn told(name: &[u8], s: &[u8]) -> Asked {
+    match which(name, b"show describe word held box-held office-held") {
+        0 => arguments::ended(Action::Say(Said::Told(Told::Show)), s),
+        1 => arguments::ended(Action::Say(Said::Told(Told::Describe)), s),
+        2 => arguments::ended(Action::Say(Said::Told(Told::Progress)), s),
+        3 => registers_named::held(Holder::Bench, s),
+        4 => registers_named::held(Holder::Box, s),
+        5 => registers_named::held(Holder::Office, s),
+        _ => asked::wrong(Fault::NotACall),
     }
-    if check::same(name, b"describe") {
-        return Found::Of(Told::Describe);
-    }
-    if check::same(name, b"word") {
-        return Found::Of(Told::Progress);
-    }
-    Found::Unknown
-}
-
-fn of_registers(name: &[u8], s: &[u8]) -> Asked {
-    if check::same(name, b"held") {
-        return registers_named::held(Holder::Bench, s);
-    }
-    if check::same(name, b"box-held") {
-        return registers_named::held(Holder::Box, s);
-    }
-    if check::same(name, b"office-held") {
-        return registers_named::held(Holder::Office, s);
-    }
-    asked::wrong(Fault::NotACall)
 }
 
 // restart, or restart N
@@ -247,13 +199,11 @@ enum Way {
 }
 
 fn way_of(word: &[u8]) -> Way {
-    if check::same(word, b"write") {
-        return Way::Of(Access::Write);
+    match which(word, b"write read") {
+        0 => Way::Of(Access::Write),
+        1 => Way::Of(Access::Read),
+        _ => Way::Unknown,
     }
-    if check::same(word, b"read") {
-        return Way::Of(Access::Read);
-    }
-    Way::Unknown
 }
 
 // packet write ID BYTES, reply write BYTES, exchange write BYTES, and the same with read

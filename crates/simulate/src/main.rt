@@ -35,8 +35,9 @@ struct Input {
     over: bool,
 }
 
-// More of the line that is being read.
-fn longer(mut notes: Notes, more: &[u8], line: &mut Page) -> Notes {
+// More of the line that is being read: the bytes from at to end.
+fn longer(mut notes: Notes, bytes: &[u8], at: usize, end: usize, line: &mut Page) -> Notes {
+    let more = text::part(bytes, at, end);
     let len = notes.len;
     if notes.too_long {
         return notes;
@@ -66,7 +67,7 @@ fn read(
     let mut at: usize = 0;
     while at < bytes.len() {
         let end = text::find(bytes, at, b'\n');
-        let notes = longer(world.notes, text::part(bytes, at, end), &mut *line);
+        let notes = longer(world.notes, bytes, at, end, &mut *line);
         world.notes = notes;
         if bytes.len() <= end {
             return world;

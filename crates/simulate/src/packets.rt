@@ -20,22 +20,16 @@ pub(crate) fn packet(
 ) -> usize {
     let n = lending::length(lent, PACKET_LIMIT);
     let mut page = lending::untouched();
-    match written(id, access, bytes, n, &mut page) {
+    match packet::write(id, access, bytes, &mut page[0..n]) {
         Written::Length(len) => {
-            let said = told(&mut *out, at, lent, text::part(&page, 0, len));
-            lending::told(&mut *out, said, lent, text::part(&page, len, n))
+            let said = told(&mut *out, at, lent, lending::part(&page, 0, len));
+            lending::told(&mut *out, said, lent, lending::part(&page, len, n))
         }
         Written::Refused(r) => {
             let said = print::refused(&mut *out, at, r.number());
-            lending::told(&mut *out, said, lent, text::part(&page, 0, n))
+            lending::told(&mut *out, said, lent, lending::part(&page, 0, n))
         }
     }
-}
-
-// A packet written to n bytes.
-fn written(id: u8, access: Access, bytes: &[u8], n: usize, page: &mut [u8]) -> Written {
-    let room = lending::within(n, page.len());
-    packet::write(id, access, bytes, &mut page[0..room])
 }
 
 // A packet, or behind `into N` its length.

@@ -71,6 +71,17 @@ pub(crate) fn with(out: &mut Output, start: usize, words: &[u8], numbers: &[u64]
     place.at
 }
 
+// The n-th, counted from 0, of the words in a row that bars part.
+pub(crate) fn nth(row: &[u8], n: usize) -> &[u8] {
+    let mut at: usize = 0;
+    let mut i: usize = 0;
+    while i < n {
+        at = std::num::wrapping_add_usize(text::find(row, at, b'|'), 1);
+        i += 1;
+    }
+    text::part(row, at, text::find(row, at, b'|'))
+}
+
 pub(crate) fn end_line(out: &mut Output, at: usize) -> usize {
     all(&mut *out, at, b"\n")
 }
@@ -141,19 +152,26 @@ pub(crate) fn expected(out: &mut Output, at: usize, line: u64, s: &[u8]) -> usiz
     end_line(&mut *out, told)
 }
 
+fn fault_place(fault: Fault) -> usize {
+    match fault {
+        Fault::TooLong => 0,
+        Fault::NotACall => 1,
+        Fault::NotANumber => 2,
+        Fault::OutOfRange => 3,
+        Fault::NotBytes => 4,
+        Fault::NoSuchFrame => 5,
+        Fault::NotAFrame => 6,
+        Fault::NoSuchRegister => 7,
+        Fault::TooManyWords => 8,
+    }
+}
+
 // What is wrong with a line.
 pub(crate) fn wrong(out: &mut Output, at: usize, line: u64, fault: Fault) -> usize {
     let n = [line];
     let behind = with(&mut *out, at, b"line _: ", &n);
-    match fault {
-        Fault::TooLong => all(&mut *out, behind, b"line too long\n"),
-        Fault::NotACall => all(&mut *out, behind, b"not a call\n"),
-        Fault::NotANumber => all(&mut *out, behind, b"not a number\n"),
-        Fault::OutOfRange => all(&mut *out, behind, b"number out of range\n"),
-        Fault::NotBytes => all(&mut *out, behind, b"not bytes\n"),
-        Fault::NoSuchFrame => all(&mut *out, behind, b"no such frame\n"),
-        Fault::NotAFrame => all(&mut *out, behind, b"not a frame\n"),
-        Fault::NoSuchRegister => all(&mut *out, behind, b"no such register\n"),
-        Fault::TooManyWords => all(&mut *out, behind, b"too many words\n"),
-    }
+    let row =
+        b"line too long|not a call|not a number|number out of range|not bytes|no such frame|not a frame|no such register|too many words";
+    let told = all(&mut *out, behind, nth(row, fault_place(fault)));
+    end_line(&mut *out, told)
 }

@@ -1,5 +1,6 @@
 // The registers by name.
 use crate::arguments;
+use crate::arguments::which;
 use crate::asked;
 use crate::asked::Action;
 use crate::asked::Asked;
@@ -27,37 +28,19 @@ pub(crate) fn held(holder: Holder, s: &[u8]) -> Asked {
 }
 
 fn named(word: &[u8]) -> Found {
-    if check::same(word, b"backlight") {
-        return Found::Of(Register::Backlight);
+    match which(
+        word,
+        b"backlight master park splash strength heater bezel pixels status",
+    ) {
+        0 => Found::Of(Register::Backlight),
+        1 => Found::Of(Register::Switch(Switch::Master)),
+        2 => Found::Of(Register::Switch(Switch::Park)),
+        3 => Found::Of(Register::Switch(Switch::Splash)),
+        4 => Found::Of(Register::Switch(Switch::Strength)),
+        5 => Found::Of(Register::Heater),
+        6 => Found::Of(Register::Bezel),
+        7 => Found::Of(Register::Pixels),
+        8 => Found::Of(Register::Status),
+        _ => Found::Unknown,
     }
-    if check::same(word, b"master") {
-        return Found::Of(Register::Switch(Switch::Master));
-    }
-    if check::same(word, b"park") {
-        return Found::Of(Register::Switch(Switch::Park));
-    }
-    if check::same(word, b"splash") {
-        return Found::Of(Register::Switch(Switch::Splash));
-    }
-    if check::same(word, b"strength") {
-        return Found::Of(Register::Switch(Switch::Strength));
-    }
-    of_several(word)
-}
-
-// Those of several numbers.
-fn of_several(word: &[u8]) -> Found {
-    if check::same(word, b"heater") {
-        return Found::Of(Register::Heater);
-    }
-    if check::same(word, b"bezel") {
-        return Found::Of(Register::Bezel);
-    }
-    if check::same(word, b"pixels") {
-        return Found::Of(Register::Pixels);
-    }
-    if check::same(word, b"status") {
-        return Found::Of(Register::Status);
-    }
-    Found::Unknown
 }

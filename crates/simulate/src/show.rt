@@ -38,11 +38,12 @@ fn session(out: &mut Output, at: usize, cab: Cab) -> usize {
 
 // The office's word on its session.
 pub(crate) fn progress(out: &mut Output, at: usize, office: Office) -> usize {
-    match office::progress(office) {
-        Progress::Settled => print::all(&mut *out, at, b"settled"),
-        Progress::Waiting => print::all(&mut *out, at, b"waiting"),
-        Progress::Over => print::all(&mut *out, at, b"over"),
-    }
+    let n = match office::progress(office) {
+        Progress::Settled => 0,
+        Progress::Waiting => 1,
+        Progress::Over => 2,
+    };
+    print::all(&mut *out, at, print::nth(b"settled|waiting|over", n))
 }
 
 fn counts(out: &mut Output, at: usize, office: Office) -> usize {

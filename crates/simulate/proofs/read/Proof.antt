@@ -15,9 +15,6 @@ loop-holds c = search needs
 find-requires : tie.Need-find-requires Inv-loop μ-loop
 find-requires c κs = search needs
 
-part-requires : tie.Need-part-requires Inv-loop μ-loop
-part-requires c κs = search needs
-
 longer-requires : tie.Need-longer-requires Inv-loop μ-loop
 longer-requires c κs = search needs
 
@@ -74,7 +71,6 @@ read-spec =
     μ-loop
     loop-holds
     find-requires
-    part-requires
     longer-requires
     returns
     begun-requires
