@@ -1,6 +1,6 @@
 // A stand-in for the test bench: reads the host's bytes from standard input, and writes to standard output the byte
 // that the controller sends for each, until the input ends.
-use controller::Controller;
+use bus::Controller;
 use controller::exchange_all;
 use libc::STDIN_FILENO;
 use libc::STDOUT_FILENO;

@@ -1,6 +1,6 @@
 // `bench` in a program that also works out an order without a controller, as the office of `simulate` does, so that the
 // commands' code has a second caller. It is there to be measured: docs/COMPARISON.md.
-use controller::Controller;
+use bus::Controller;
 use controller::exchange_all;
 use frame::Change;
 use libc::STDERR_FILENO;

@@ -2,7 +2,7 @@
 mod obey;
 
 use base::Refusal;
-use controller::Controller;
+use bus::Controller;
 use frame::Change;
 use frame::Frame;
 use frame::Kind;

@@ -1,5 +1,5 @@
 // An order at the controller.
-use controller::Controller;
+use bus::Controller;
 use controller::exchange_all;
 use frame::Change;
 use packet::PACKET_LIMIT;
@@ -7,7 +7,7 @@ ghost use mathlib.Core.Path.{_≡_};
 ghost use Prim.Native.Nat.{_≤_};
 ghost use lib.ListN.{length, replicate};
 ghost use Rattle.packet.specs.Packet.{packet-limit};
-ghost use Rattle.controller.specs.Run.{run};
+ghost use Rattle.bus.specs.Run.{run};
 ghost use Rattle.frame.specs.View.{asked};
 ghost use Rattle.session.specs.Box as spec;
 

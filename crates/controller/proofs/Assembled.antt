@@ -10,9 +10,9 @@ use Rattle.settings.specs.declared.settings.Settings.{Settings}
 use Rattle.settings.specs.declared.settings.Flag.the-variants.{Incomplete, BytesIgnored}
 use Rattle.settings.specs.Settings as settings-spec
 use Rattle.registers.specs.Commands.{reply-limit}
-use Rattle.controller.specs.declared.bus.Controller.{Controller}
+use Rattle.bus.specs.declared.Controller.{Controller}
 use Rattle.controller.specs.declared.state.BusState.{BusState}
-use Rattle.controller.specs.Bus as bus
+use Rattle.bus.specs.Bus as bus
 use Rattle.controller.specs.BusState.{state-of, assembled, alone, unescaped}
 
 module _ (s : BusState) (σ : Settings) (body bytes : List ℕ) where

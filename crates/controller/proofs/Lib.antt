@@ -1,12 +1,2 @@
-pub mod Agreement
 pub mod Assembled
-pub mod CommandTable
-pub mod Effect
-pub mod Examples
-pub mod Keeps
-pub mod NothingBefore
-pub mod ReadsBack
-pub mod RunLaws
 pub mod Sent
-pub mod Settles
-pub mod StatusBits

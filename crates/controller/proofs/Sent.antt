@@ -6,10 +6,10 @@ use mathlib.Core.Path.{_≡_, refl, sym, ap, _∙_}
 use mathlib.Core.List.{List, [], _∷_, _++_}
 use lib.ListN.{length, getD, take, drop, set, drop-of-length-le}
 use lib.Seq.{take-suc, take-all, take-length, drop-cons, drop-length, length-take-le, set-append-seam, append-snoc}
-use Rattle.controller.specs.declared.bus.Controller.{Controller}
-use Rattle.controller.specs.Bus.{exchange}
-use Rattle.controller.specs.Run.{run, outs}
-use Rattle.controller.proofs.RunLaws.{outs-append}
+use Rattle.bus.specs.declared.Controller.{Controller}
+use Rattle.bus.specs.Bus.{exchange}
+use Rattle.bus.specs.Run.{run, outs}
+use Rattle.bus.proofs.RunLaws.{outs-append}
 
 outs-length : (l : List ℕ) (c : Controller) → length (outs c l) ≡ length l
 unfolding outs

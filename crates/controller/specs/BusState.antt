@@ -5,14 +5,14 @@ use mathlib.Core.Path.{_≡_}
 use mathlib.Core.Bool.{cond}
 use mathlib.Core.List.{List, []}
 use lib.Dec.{eqb}
-use Rattle.controller.specs.declared.bus.Controller.{Controller}
+use Rattle.bus.specs.declared.Controller.{Controller}
 use Rattle.controller.specs.declared.state.BusState.{BusState}
 use Rattle.controller.specs.declared.state.Step.{Step}
 use Rattle.controller.specs.declared.state.Step.the-variants.{Next, Checksum}
 use Rattle.registers.specs.declared.reply.Performed.{Performed}
 use Rattle.settings.specs.declared.settings.Settings.{Settings}
 use Rattle.settings.specs.Settings.{with-status, fresh}
-use Rattle.controller.specs.Bus.{controller-of, ended, judge}
+use Rattle.bus.specs.Bus.{controller-of, ended, judge}
 
 abbrev pub state-of : Controller → BusState
 state-of c =

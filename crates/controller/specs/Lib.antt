@@ -1,7 +1,1 @@
-pub mod AsWritten
-pub mod Bus
 pub mod BusState
-pub mod BusTheorems
-pub mod CommandTheorems
-pub mod Examples
-pub mod Run

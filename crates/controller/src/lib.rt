@@ -1,12 +1,7 @@
-// The stand-in controller: the byte exchange of its main application.
-mod bus;
+// The byte exchange of the stand-in controller's main application.
 mod open_packet;
 mod run;
 mod state;
 
-pub use bus::Collected;
-pub use bus::Controller;
-pub use bus::Exchanged;
-pub use bus::Outgoing;
-pub use bus::Phase;
+pub use run::exchange;
 pub use run::exchange_all;

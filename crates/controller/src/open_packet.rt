@@ -1,9 +1,9 @@
 // The open packet: its phases, its sum, and where its data bytes go.
-use crate::bus::Phase;
+use bus::Phase;
 use std::num::wrapping_sub_u8;
 ghost use mathlib.Core.Path.{_≡_};
 ghost use lib.ListN.{set};
-ghost use Rattle.controller.specs.Bus as spec;
+ghost use Rattle.bus.specs.Bus as spec;
 ghost use Rattle.controller.specs.BusState.{unescaped as out-of-escape};
 
 pub(crate) fn is_idle(phase: Phase) -> bool

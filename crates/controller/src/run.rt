@@ -1,6 +1,7 @@
 // The exchange over a run of bytes. The controller is taken apart once: the two arrays are changed in place, the settings
 // where a packet ends, and the rest goes from step to step by value.
-use crate::bus::Controller;
+use bus::Controller;
+use bus::Exchanged;
 use crate::state::BusState;
 use crate::state::Step;
 use registers::REPLY_LIMIT;
@@ -9,8 +10,9 @@ ghost use mathlib.Core.Path.{_≡_};
 ghost use mathlib.Core.List.{_++_};
 ghost use Prim.Native.Nat.{min};
 ghost use lib.ListN.{length, drop};
+ghost use Rattle.bus.specs.Bus as spec;
 ghost use Rattle.controller.specs.BusState.{assembled};
-ghost use Rattle.controller.specs.Run.{run, outs, exchanged};
+ghost use Rattle.bus.specs.Run.{run, outs, exchanged};
 
 fn least(a: usize, b: usize) -> usize
     ensures { λ r. ⌜ r ≡ min a b ⌝ }
@@ -80,4 +82,17 @@ pub fn exchange_all(controller: Controller, input: &[u8], output: &mut [u8]) -> 
         input,
         output,
     )
+}
+
+// One exchange: the byte out is fixed before the byte in is looked at.
+pub fn exchange(controller: Controller, byte: u8) -> Exchanged
+    ensures { λ r. ⌜ r ≡ spec.exchange controller byte ⌝ }
+{
+    let input = [byte];
+    let mut output = [0];
+    let after = exchange_all(controller, &input, &mut output);
+    Exchanged {
+        controller: after,
+        out: output[0],
+    }
 }

@@ -1,9 +1,9 @@
 // The steps of an exchange, on the part of a controller that changes from byte to byte. How they are written decides how
 // fast the loop over them is: docs/COMPARISON.md says what not to disturb.
-use crate::bus::Collected;
-use crate::bus::Controller;
-use crate::bus::Outgoing;
-use crate::bus::Phase;
+use bus::Collected;
+use bus::Controller;
+use bus::Outgoing;
+use bus::Phase;
 use crate::open_packet::add;
 use crate::open_packet::after_data;
 use crate::open_packet::after_length;
@@ -22,7 +22,7 @@ use settings::StatusBytes;
 ghost use mathlib.Core.Path.{_≡_};
 ghost use mathlib.Core.List.{List};
 ghost use Prim.Native.Nat.{ℕ, _<_};
-ghost use Rattle.controller.specs.Bus as spec;
+ghost use Rattle.bus.specs.Bus as spec;
 ghost use Rattle.controller.specs.BusState.{state-of, alone, assembled, Steps, ended-with};
 
 // A controller but for its two arrays and its settings, of which it has the status bits.

@@ -8,7 +8,7 @@ use Rattle.frame.specs.declared.frame.Ask.{Ask}
 use Rattle.frame.specs.declared.frame.Ask.the-variants.{Command, Raise, Lower}
 use Rattle.frame.specs.View.{asked-as}
 use Rattle.frame.specs.Frame.{data-limit, Change, ValidChange, valid-command, valid-raise, valid-lower}
-use Rattle.controller.proofs.Keeps.{perform-held, noted-held}
+use Rattle.bus.proofs.Keeps.{perform-held, noted-held}
 use Rattle.base.specs.Bytes.{Bytes}
 use Rattle.number.proofs.NumberLaws.{bytes-le16}
 use Rattle.order.specs.Apply.{change-command, change-data, order-packet, apply}

@@ -5,13 +5,13 @@ use mathlib.Core.List.{List}
 use native.Mathlib.Omega.{arith}
 use lib.ListN.{length, length-take, replicate}
 use Rattle.packet.specs.Packet.{data-most, packet-of}
-use Rattle.controller.specs.declared.bus.Controller.{Controller}
+use Rattle.bus.specs.declared.Controller.{Controller}
 use Rattle.registers.specs.Commands.{perform}
-use Rattle.controller.specs.Bus.{waiting, opening, noted}
-use Rattle.controller.specs.Run.{run, Ready}
-use Rattle.controller.proofs.RunLaws.{run-append}
-use Rattle.controller.proofs.ReadsBack.{reads-back-command}
-use Rattle.controller.proofs.Settles.{settles-command}
+use Rattle.bus.specs.Bus.{waiting, opening, noted}
+use Rattle.bus.specs.Run.{run, Ready}
+use Rattle.bus.proofs.RunLaws.{run-append}
+use Rattle.bus.proofs.ReadsBack.{reads-back-command}
+use Rattle.bus.proofs.Settles.{settles-command}
 use Rattle.frame.specs.Frame.{data-limit}
 use Rattle.order.specs.declared.change.Resolved.{Resolved}
 use Rattle.order.specs.Apply.{change-command, change-data, apply, resolved-data}

@@ -5,8 +5,8 @@ use lib.ListN.{length, replicate}
 use Rattle.packet.specs.Packet.{data-most}
 use Rattle.settings.specs.declared.settings.Settings.{Settings}
 use Rattle.registers.specs.Block.{Held}
-use Rattle.controller.specs.declared.bus.Controller.{Controller}
-use Rattle.controller.specs.Run.{run, Ready}
+use Rattle.bus.specs.declared.Controller.{Controller}
+use Rattle.bus.specs.Run.{run, Ready}
 use Rattle.frame.specs.Frame.{Change, ValidChange}
 use Rattle.order.specs.Apply.{change-data, order-packet, apply}
 

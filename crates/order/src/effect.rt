@@ -14,7 +14,7 @@ ghost use lib.ListN.{take};
 ghost use Rattle.packet.specs.Packet.{packet-limit};
 ghost use Rattle.registers.specs.Commands.{perform as perform-of};
 ghost use Rattle.packet.specs.Packet.{has-escape as has-escape-of};
-ghost use Rattle.controller.specs.Bus.{noted};
+ghost use Rattle.bus.specs.Bus.{noted};
 ghost use Rattle.frame.specs.View.{asked};
 ghost use Rattle.order.specs.Apply as spec;
 

@@ -8,10 +8,10 @@ use mathlib.Core.Option.{Option, none, some}
 use lib.ListN.{length}
 use lib.Dec.{eqb, leb, ltb}
 use borrow.Author.Tests.{eqb-true, eq-eqb}
-use Rattle.controller.specs.declared.bus.Controller.{Controller}
+use Rattle.bus.specs.declared.Controller.{Controller}
 use Rattle.settings.specs.declared.settings.Settings.{Settings}
-use Rattle.controller.specs.Run.{Ready}
-use Rattle.controller.proofs.Settles.{fresh-ready}
+use Rattle.bus.specs.Run.{Ready}
+use Rattle.bus.proofs.Settles.{fresh-ready}
 use Rattle.frame.specs.Frame.{Change, Frame, opening, welcome, order, ack, refuse, ValidChange}
 use Rattle.link.specs.Encoding.{decode, Valid, valid-order}
 use Rattle.link.specs.View.{frame-limit}

@@ -3,7 +3,7 @@ use Prim.Native.Nat.{ℕ}
 use mathlib.Core.Path.{_≡_, sym, _∙_, subst}
 use mathlib.Core.List.{List}
 use mathlib.Core.Option.{some, Option·some-injective}
-use Rattle.controller.proofs.Settles.{fresh-ready}
+use Rattle.bus.proofs.Settles.{fresh-ready}
 use Rattle.frame.specs.Frame.{Frame}
 use Rattle.link.specs.Encoding.{Valid, decode}
 use Rattle.session.specs.declared.Cab.{Cab}

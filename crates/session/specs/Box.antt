@@ -5,9 +5,9 @@ use mathlib.Core.List.{List}
 use mathlib.Core.Option.{Option, none, some}
 use lib.ListN.{replicate}
 use lib.Dec.{eqb, leb, ltb}
-use Rattle.controller.specs.declared.bus.Controller.{Controller}
-use Rattle.controller.specs.Bus as bus
-use Rattle.controller.specs.Run.{run}
+use Rattle.bus.specs.declared.Controller.{Controller}
+use Rattle.bus.specs.Bus as bus
+use Rattle.bus.specs.Run.{run}
 use Rattle.frame.specs.Frame.{Change, Frame, opening, welcome, order, ack, refuse}
 use Rattle.link.specs.Encoding.{decode}
 use Rattle.link.specs.View.{frame-limit}

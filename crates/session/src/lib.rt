@@ -1,5 +1,5 @@
 // What both ends of the adjustment link hold. Their rules are in specs/, the calls that keep them in cabbox and office.
-use controller::Controller;
+use bus::Controller;
 use frame::Change;
 use frame::OrderNumber;
 use frame::SessionId;

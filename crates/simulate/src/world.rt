@@ -1,5 +1,5 @@
 // What a script's lines change.
-use controller::Controller;
+use bus::Controller;
 use frame::SessionId;
 use link::FRAME_LIMIT;
 use session::Ends;

@@ -1,6 +1,6 @@
 use borrow.Author.Needs.{needs}
 use Rattle.base.proofs.Tests.{tests}
-use Rattle.controller.specs.Bus.{after-data}
+use Rattle.bus.specs.Bus.{after-data}
 use Rattle.controller.proofs.open_packet.after_data.Statement.{statement}
 use Rattle.controller.proofs.open_packet.after_data.Tie as tie
 

@@ -1,6 +1,6 @@
 use borrow.Author.Needs.{needs}
 use Rattle.base.proofs.Tests.{tests}
-use Rattle.controller.specs.Bus.{after-length}
+use Rattle.bus.specs.Bus.{after-length}
 use Rattle.controller.proofs.open_packet.after_length.Statement.{statement}
 use Rattle.controller.proofs.open_packet.after_length.Tie as tie
 

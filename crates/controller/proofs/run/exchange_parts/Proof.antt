@@ -5,11 +5,11 @@ use mathlib.Core.Logic.{⊎-elim}
 use mathlib.Core.List.{_++_}
 use lib.ListN.{length, take, drop, getD, length-set}
 use borrow.Author.Needs.{needs}
-use Rattle.controller.specs.declared.bus.Controller.{Controller}
-use Rattle.controller.specs.Bus.{after, out}
+use Rattle.bus.specs.declared.Controller.{Controller}
+use Rattle.bus.specs.Bus.{after, out}
 use Rattle.controller.specs.BusState.{assembled}
-use Rattle.controller.specs.Run.{run, outs}
-use Rattle.controller.proofs.RunLaws.{run-more}
+use Rattle.bus.specs.Run.{run, outs}
+use Rattle.bus.proofs.RunLaws.{run-more}
 use Rattle.controller.proofs.Sent.{sent-more, take-least, drop-least}
 use Rattle.controller.proofs.run.exchange_parts.Statement.{statement}
 use Rattle.controller.proofs.run.exchange_parts.Tie as tie

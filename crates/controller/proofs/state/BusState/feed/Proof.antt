@@ -3,7 +3,7 @@ use mathlib.Core.List.{List}
 use borrow.Author.Needs.{needs}
 use Rattle.base.proofs.Tests.{tests}
 use Rattle.settings.specs.declared.settings.Settings.{Settings}
-use Rattle.controller.specs.Bus.{feed-at}
+use Rattle.bus.specs.Bus.{feed-at}
 use Rattle.controller.proofs.state.BusState.feed.Statement.{statement}
 use Rattle.controller.proofs.state.BusState.feed.Tie as tie
 

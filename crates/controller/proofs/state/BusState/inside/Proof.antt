@@ -4,7 +4,7 @@ use mathlib.Core.List.{List}
 use borrow.Author.Needs.{needs}
 use Rattle.settings.specs.declared.settings.Settings.{Settings}
 use Rattle.settings.specs.Settings.{flagged}
-use Rattle.controller.specs.Bus.{feed}
+use Rattle.bus.specs.Bus.{feed}
 use Rattle.controller.specs.BusState.{assembled}
 use Rattle.controller.proofs.Assembled.{feeds-escaped, opens, feeds}
 use Rattle.controller.proofs.state.BusState.inside.Statement.{statement}

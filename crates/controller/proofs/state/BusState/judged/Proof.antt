@@ -4,7 +4,7 @@ use mathlib.Core.Path.{sym}
 use lib.Seq.{length-take-le}
 use borrow.Author.Needs.{needs}
 use Rattle.base.proofs.Tests.{tests}
-use Rattle.controller.specs.Bus.{judge}
+use Rattle.bus.specs.Bus.{judge}
 use Rattle.controller.proofs.state.BusState.judged.Statement.{statement}
 use Rattle.controller.proofs.state.BusState.judged.Tie as tie
 

@@ -1,6 +1,6 @@
 use borrow.Author.Needs.{needs}
 use Rattle.base.proofs.Tests.{tests}
-use Rattle.controller.specs.Bus.{outside}
+use Rattle.bus.specs.Bus.{outside}
 use Rattle.controller.proofs.state.BusState.outside.Statement.{statement}
 use Rattle.controller.proofs.state.BusState.outside.Tie as tie
 

@@ -1,6 +1,6 @@
 use borrow.Author.Needs.{needs}
 use Rattle.base.proofs.Tests.{tests}
-use Rattle.controller.specs.Bus.{start}
+use Rattle.bus.specs.Bus.{start}
 use Rattle.controller.proofs.state.BusState.start.Statement.{statement}
 use Rattle.controller.proofs.state.BusState.start.Tie as tie
 

@@ -1,5 +1,5 @@
 use borrow.Author.Needs.{needs}
-use Rattle.controller.specs.Bus.{feed-at}
+use Rattle.bus.specs.Bus.{feed-at}
 use Rattle.controller.proofs.state.BusState.with_command.Statement.{statement}
 use Rattle.controller.proofs.state.BusState.with_command.Tie as tie
 

@@ -1,6 +1,6 @@
 use borrow.Author.Needs.{needs}
 use Rattle.base.proofs.Tests.{tests}
-use Rattle.controller.specs.Bus.{feed-at}
+use Rattle.bus.specs.Bus.{feed-at}
 use Rattle.controller.proofs.state.BusState.with_data.Statement.{statement}
 use Rattle.controller.proofs.state.BusState.with_data.Tie as tie
 

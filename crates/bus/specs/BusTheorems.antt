@@ -12,11 +12,11 @@ use Rattle.settings.specs.declared.settings.Settings.{Settings}
 use Rattle.settings.specs.declared.settings.Flag.{Flag}
 use Rattle.settings.specs.Settings.{flagged, cleared}
 use Rattle.registers.specs.Commands.{perform}
-use Rattle.controller.specs.declared.bus.Phase.the-variants.{Idle, Checksum}
-use Rattle.controller.specs.declared.bus.Controller.{Controller}
-use Rattle.controller.specs.Bus.{waiting, fresh, performed, exchange, opening, noted}
-use Rattle.controller.specs.Run.{run, outs, Ready}
-use Rattle.controller.specs.AsWritten.{begin, steps, sent}
+use Rattle.bus.specs.declared.Phase.the-variants.{Idle, Checksum}
+use Rattle.bus.specs.declared.Controller.{Controller}
+use Rattle.bus.specs.Bus.{waiting, fresh, performed, exchange, opening, noted}
+use Rattle.bus.specs.Run.{run, outs, Ready}
+use Rattle.bus.specs.AsWritten.{begin, steps, sent}
 
 -- both definitions of the controller answer every list of bytes alike, and hold the same settings after it
 abbrev pub Agrees : Type 0

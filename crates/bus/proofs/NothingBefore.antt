@@ -10,21 +10,21 @@ use lib.Dec.{eqb, ltb, eqb·suc-zero}
 use borrow.Author.Tests.{ltb-true, ltb-false}
 use Rattle.packet.specs.Packet.{command-byte, checksum, escape-byte, escape, packet-of, packet}
 use Rattle.packet.proofs.PacketLaws.{escape-append}
-use Rattle.controller.specs.declared.bus.Phase.{Phase}
-use Rattle.controller.specs.declared.bus.Phase.the-variants.{Command, Length}
-use Rattle.controller.specs.declared.bus.Collected.{Collected}
-use Rattle.controller.specs.declared.bus.Controller.{Controller}
+use Rattle.bus.specs.declared.Phase.{Phase}
+use Rattle.bus.specs.declared.Phase.the-variants.{Command, Length}
+use Rattle.bus.specs.declared.Collected.{Collected}
+use Rattle.bus.specs.declared.Controller.{Controller}
 use Rattle.settings.specs.declared.settings.Settings.{Settings}
 use Rattle.settings.specs.declared.settings.Flag.the-variants.{Incomplete, EscapeSeen}
 use Rattle.settings.specs.Settings.{flagged, cleared}
 use Rattle.settings.proofs.StatusLaws.{cleared-flagged}
-use Rattle.controller.specs.Bus.{is-idle, feed-at, after-length, after}
-use Rattle.controller.specs.Run.{run}
-use Rattle.controller.specs.BusTheorems.{NothingBefore, ClearedBefore}
-use Rattle.controller.proofs.RunLaws.{run-append}
+use Rattle.bus.specs.Bus.{is-idle, feed-at, after-length, after}
+use Rattle.bus.specs.Run.{run}
+use Rattle.bus.specs.BusTheorems.{NothingBefore, ClearedBefore}
+use Rattle.bus.proofs.RunLaws.{run-append}
 use Rattle.packet.specs.Packet.{has-escape}
-use Rattle.controller.specs.Bus.{opening, noted}
-use Rattle.controller.proofs.ReadsBack.{noted-append, reading, escape-opens, byte-in, after-length-busy, fields-in, packet-is, start-in}
+use Rattle.bus.specs.Bus.{opening, noted}
+use Rattle.bus.proofs.ReadsBack.{noted-append, reading, escape-opens, byte-in, after-length-busy, fields-in, packet-is, start-in}
 
 -- ---- what holds of every proper beginning of an escaped list
 

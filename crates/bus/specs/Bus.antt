@@ -4,12 +4,12 @@ use mathlib.Core.Bool.{Bool, true, false, cond}
 use mathlib.Core.List.{List, [], _∷_}
 use lib.ListN.{getD, set, take, replicate}
 use lib.Dec.{eqb, leb, ltb}
-use Rattle.controller.specs.declared.bus.Phase.{Phase}
-use Rattle.controller.specs.declared.bus.Phase.the-variants.{Idle, Command, Length, Data, Checksum}
-use Rattle.controller.specs.declared.bus.Collected.{Collected}
-use Rattle.controller.specs.declared.bus.Controller.{Controller}
-use Rattle.controller.specs.declared.bus.Exchanged.{Exchanged}
-use Rattle.controller.specs.declared.bus.Outgoing.{Outgoing}
+use Rattle.bus.specs.declared.Phase.{Phase}
+use Rattle.bus.specs.declared.Phase.the-variants.{Idle, Command, Length, Data, Checksum}
+use Rattle.bus.specs.declared.Collected.{Collected}
+use Rattle.bus.specs.declared.Controller.{Controller}
+use Rattle.bus.specs.declared.Exchanged.{Exchanged}
+use Rattle.bus.specs.declared.Outgoing.{Outgoing}
 use Rattle.registers.specs.declared.reply.ReplyBytes.{ReplyBytes}
 use Rattle.registers.specs.declared.reply.Performed.{Performed}
 use Rattle.settings.specs.declared.settings.Settings.{Settings}

@@ -13,8 +13,8 @@ use Rattle.packet.specs.Packet.{command-byte, packet-of, packet}
 use Rattle.packet.specs.Reply.{success}
 use Rattle.packet.specs.declared.writer.Access.{Access}
 use Rattle.packet.specs.declared.writer.Access.the-variants.{Write, Read}
-use Rattle.controller.specs.declared.bus.Phase.the-variants.{Idle}
-use Rattle.controller.specs.declared.bus.Controller.{Controller}
+use Rattle.bus.specs.declared.Phase.the-variants.{Idle}
+use Rattle.bus.specs.declared.Controller.{Controller}
 use Rattle.registers.specs.declared.lookup.Lookup.{Lookup}
 use Rattle.registers.specs.declared.lookup.Lookup.the-variants.{Found, Unknown}
 use Rattle.registers.specs.declared.reply.Performed.{Performed}
@@ -38,12 +38,12 @@ use Rattle.registers.specs.Commands.{
   perform-looked-up,
   perform,
 }
-use Rattle.controller.specs.Bus.{waiting, fresh, one-sent, outside, after, out}
-use Rattle.controller.specs.Run.{run, outs, Ready}
-use Rattle.controller.specs.BusTheorems.{Settles, Replies}
-use Rattle.controller.proofs.RunLaws.{run-append}
-use Rattle.controller.specs.Bus.{opening, noted}
-use Rattle.controller.proofs.ReadsBack.{reads-back-command}
+use Rattle.bus.specs.Bus.{waiting, fresh, one-sent, outside, after, out}
+use Rattle.bus.specs.Run.{run, outs, Ready}
+use Rattle.bus.specs.BusTheorems.{Settles, Replies}
+use Rattle.bus.proofs.RunLaws.{run-append}
+use Rattle.bus.specs.Bus.{opening, noted}
+use Rattle.bus.proofs.ReadsBack.{reads-back-command}
 
 -- ---- a command's reply
 

@@ -16,14 +16,14 @@ use Rattle.packet.proofs.PacketLaws.{checksum-snoc}
 use Rattle.base.proofs.Lists.{drop-more}
 use Rattle.settings.specs.declared.settings.Settings.{Settings}
 use Rattle.settings.specs.declared.settings.Flag.the-variants.{Incomplete, EscapeSeen, BytesIgnored, WrongChecksum}
-use Rattle.controller.specs.declared.bus.Outgoing.{Outgoing}
+use Rattle.bus.specs.declared.Outgoing.{Outgoing}
 use Rattle.registers.specs.declared.reply.Performed.{Performed}
-use Rattle.controller.specs.declared.bus.Phase.{Phase}
-use Rattle.controller.specs.declared.bus.Phase.the-variants.{Idle, Command, Length, Data, Checksum}
-use Rattle.controller.specs.declared.bus.Collected.{Collected}
-use Rattle.controller.specs.declared.bus.Controller.{Controller}
+use Rattle.bus.specs.declared.Phase.{Phase}
+use Rattle.bus.specs.declared.Phase.the-variants.{Idle, Command, Length, Data, Checksum}
+use Rattle.bus.specs.declared.Collected.{Collected}
+use Rattle.bus.specs.declared.Controller.{Controller}
 use Rattle.registers.specs.Commands.{reply-limit, reply-of}
-use Rattle.controller.specs.Bus.{
+use Rattle.bus.specs.Bus.{
   is-idle,
   waiting,
   after-length,
@@ -40,8 +40,8 @@ use Rattle.controller.specs.Bus.{
   after,
   out,
 }
-use Rattle.controller.specs.Run.{run, outs}
-use Rattle.controller.specs.AsWritten.{
+use Rattle.bus.specs.Run.{run, outs}
+use Rattle.bus.specs.AsWritten.{
   Outcome,
   checked,
   State,
@@ -60,10 +60,10 @@ use Rattle.controller.specs.AsWritten.{
 }
 use Rattle.base.specs.Bytes.{Bytes}
 use Rattle.base.proofs.Tests.{if-both, unless-both}
-use Rattle.controller.specs.CommandTheorems.{StatusFits}
-use Rattle.controller.specs.BusTheorems.{Agrees}
-use Rattle.controller.proofs.StatusBits.{marked-alike}
-use Rattle.controller.proofs.CommandTable.{Same, failed-same, same}
+use Rattle.bus.specs.CommandTheorems.{StatusFits}
+use Rattle.bus.specs.BusTheorems.{Agrees}
+use Rattle.bus.proofs.StatusBits.{marked-alike}
+use Rattle.bus.proofs.CommandTable.{Same, failed-same, same}
 
 -- ---- the unsent bytes
 

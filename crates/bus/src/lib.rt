@@ -1,9 +1,8 @@
-// The controller, and its exchange: a byte in, a byte out, and the controller after it.
-use crate::run::exchange_all;
+// What the stand-in controller holds. The rules of its byte exchange are in specs/, the code that keeps them in controller.
 use registers::REPLY_LIMIT;
 use settings::Settings;
 ghost use mathlib.Core.Path.{_≡_};
-ghost use Rattle.controller.specs.Bus as spec;
+ghost use Rattle.bus.specs.Bus as spec;
 
 // What the next byte of an open packet is. Data holds how many data bytes are left.
 pub enum Phase {
@@ -82,18 +81,5 @@ impl Controller {
         ensures { λ r. ⌜ r ≡ self .settings ⌝ }
     {
         self.settings
-    }
-
-    // One exchange: the byte out is fixed before the byte in is looked at.
-    pub fn exchange(self, byte: u8) -> Exchanged
-        ensures { λ r. ⌜ r ≡ spec.exchange self byte ⌝ }
-    {
-        let input = [byte];
-        let mut output = [0];
-        let controller = exchange_all(self, &input, &mut output);
-        Exchanged {
-            controller,
-            out: output[0],
-        }
     }
 }

@@ -16,7 +16,7 @@ use Rattle.registers.specs.declared.lookup.Lookup.{Lookup}
 use Rattle.registers.specs.declared.lookup.Lookup.the-variants.{Found, Unknown}
 use Rattle.registers.specs.Block.{StatusHeld, Held}
 use Rattle.registers.specs.Commands.{lookup, access, offers, data-count, request-length, accepts, written, reply-of, after-read, locked, perform}
-use Rattle.controller.specs.AsWritten.{Row, table, find, command-found}
+use Rattle.bus.specs.AsWritten.{Row, table, find, command-found}
 
 -- ---- the registers as the paper's table has them
 

@@ -1,7 +1,7 @@
 use borrow.Author.Needs.{needs}
-use Rattle.controller.specs.Run.{run, outs}
-use Rattle.controller.proofs.bus.Controller.exchange.Statement.{statement}
-use Rattle.controller.proofs.bus.Controller.exchange.Tie as tie
+use Rattle.bus.specs.Run.{run, outs}
+use Rattle.controller.proofs.run.exchange.Statement.{statement}
+use Rattle.controller.proofs.run.exchange.Tie as tie
 
 slice-aggregate-exchange-all : tie.Need-slice-aggregate-exchange-all
 slice-aggregate-exchange-all c = search needs

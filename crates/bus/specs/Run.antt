@@ -3,9 +3,9 @@ use Prim.Native.Nat.{ℕ, _≤_}
 use mathlib.Core.Path.{_≡_}
 use mathlib.Core.List.{List, [], _∷_}
 use lib.ListN.{length, take}
-use Rattle.controller.specs.declared.bus.Controller.{Controller}
-use Rattle.controller.specs.declared.bus.Phase.the-variants.{Idle}
-use Rattle.controller.specs.Bus.{exchange}
+use Rattle.bus.specs.declared.Controller.{Controller}
+use Rattle.bus.specs.declared.Phase.the-variants.{Idle}
+use Rattle.bus.specs.Bus.{exchange}
 
 -- the bytes of an input that are exchanged: as many as the output has room for
 abbrev pub exchanged : List ℕ → List ℕ → List ℕ

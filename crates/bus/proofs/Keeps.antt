@@ -15,10 +15,10 @@ use Rattle.settings.specs.declared.settings.Flag.{Flag}
 use Rattle.settings.specs.declared.settings.Flag.the-variants.{Incomplete, NotAvailable, InvalidCommand, OutOfRange, EscapeSeen, WrongLength, BytesIgnored, WrongChecksum}
 use Rattle.settings.specs.Settings.{set-bit, with-flag, flagged, cleared}
 use Rattle.registers.specs.Commands.{accepts, written, after-read}
-use Rattle.controller.specs.CommandTheorems.{CommandEffect, failed, was-read, was-written, PerformHeld}
-use Rattle.controller.proofs.Effect.{perform-outcome}
+use Rattle.bus.specs.CommandTheorems.{CommandEffect, failed, was-read, was-written, PerformHeld}
+use Rattle.bus.proofs.Effect.{perform-outcome}
 use Rattle.packet.specs.Packet.{has-escape}
-use Rattle.controller.specs.Bus.{noted}
+use Rattle.bus.specs.Bus.{noted}
 use Rattle.registers.specs.Block.{StatusHeld, Held}
 use Rattle.registers.proofs.BlockTheorems.{bezel-from-held, area-from-held}
 use Rattle.base.specs.Bytes.{Bytes}

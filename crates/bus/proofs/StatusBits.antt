@@ -17,8 +17,8 @@ use Rattle.settings.specs.declared.settings.Flag.the-variants.{
   WrongChecksum,
 }
 use Rattle.settings.specs.Settings.{set-bit, in-first, in-second, in-fourth, with-status, flagged}
-use Rattle.controller.specs.AsWritten as written
-use Rattle.controller.specs.CommandTheorems.{StatusFits}
+use Rattle.bus.specs.AsWritten as written
+use Rattle.bus.specs.CommandTheorems.{StatusFits}
 use Rattle.base.proofs.Tests.{all-below, below-each}
 
 -- ---- one bit of a byte

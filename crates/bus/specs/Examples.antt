@@ -12,9 +12,9 @@ use Rattle.settings.specs.declared.settings.Offsets.{Offsets}
 use Rattle.settings.specs.declared.settings.Area.{Area}
 use Rattle.settings.specs.declared.settings.StatusBytes.{StatusBytes}
 use Rattle.settings.specs.Settings.{with-backlight, with-switches, with-strength, with-bezel, with-status, fresh as fresh-settings}
-use Rattle.controller.specs.Bus.{fresh}
-use Rattle.controller.specs.Run.{run, outs}
-use Rattle.controller.specs.AsWritten.{begin, steps, sent}
+use Rattle.bus.specs.Bus.{fresh}
+use Rattle.bus.specs.Run.{run, outs}
+use Rattle.bus.specs.AsWritten.{begin, steps, sent}
 
 -- what comes in, what goes out, and the settings afterwards
 pub record Example : Type 0 where

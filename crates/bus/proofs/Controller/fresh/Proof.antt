@@ -1,7 +1,7 @@
 use borrow.Author.Needs.{needs}
 use Rattle.base.proofs.Tests.{tests}
-use Rattle.controller.proofs.bus.Controller.fresh.Statement.{statement}
-use Rattle.controller.proofs.bus.Controller.fresh.Tie as tie
+use Rattle.bus.proofs.Controller.fresh.Statement.{statement}
+use Rattle.bus.proofs.Controller.fresh.Tie as tie
 
 none-requires : tie.Need-none-requires
 none-requires c κs = search needs

@@ -10,9 +10,9 @@ use borrow.Author.Tests.{eqb-true, eq-eqb}
 use Rattle.base.proofs.Tests.{cond-cases}
 use Rattle.packet.specs.declared.writer.Access.{Access}
 use Rattle.packet.specs.declared.writer.Access.the-variants.{Write, Read}
-use Rattle.controller.specs.declared.bus.Phase.{Phase}
-use Rattle.controller.specs.declared.bus.Phase.the-variants.{Idle, Command, Length, Data, Checksum}
-use Rattle.controller.specs.declared.bus.Controller.{Controller}
+use Rattle.bus.specs.declared.Phase.{Phase}
+use Rattle.bus.specs.declared.Phase.the-variants.{Idle, Command, Length, Data, Checksum}
+use Rattle.bus.specs.declared.Controller.{Controller}
 use Rattle.registers.specs.declared.lookup.Register.{Register}
 use Rattle.registers.specs.declared.reply.Performed.{Performed}
 use Rattle.registers.specs.declared.lookup.Lookup.{Lookup}
@@ -20,9 +20,9 @@ use Rattle.registers.specs.declared.lookup.Lookup.the-variants.{Found, Unknown}
 use Rattle.settings.specs.declared.settings.Settings.{Settings}
 use Rattle.settings.specs.declared.settings.Flag.the-variants.{Incomplete, NotAvailable, InvalidCommand, OutOfRange, EscapeSeen, WrongLength, BytesIgnored, WrongChecksum}
 use Rattle.registers.specs.Commands.{lookup, access, offers, request-length, data-count, accepts, locked, write-register, execute, perform-offered, perform-found, perform-looked-up}
-use Rattle.controller.specs.Bus.{is-idle, judge, feed-at, inside, outside, start, after}
-use Rattle.controller.specs.CommandTheorems.{CommandEffect, failed, was-read, was-written, PerformOutcome, PerformWrites}
-use Rattle.controller.specs.BusTheorems.{value, Effect, unchanged, flag-set, packet-performed, EffectOnly}
+use Rattle.bus.specs.Bus.{is-idle, judge, feed-at, inside, outside, start, after}
+use Rattle.bus.specs.CommandTheorems.{CommandEffect, failed, was-read, was-written, PerformOutcome, PerformWrites}
+use Rattle.bus.specs.BusTheorems.{value, Effect, unchanged, flag-set, packet-performed, EffectOnly}
 
 -- ---- a packet that is performed
 

@@ -11,15 +11,15 @@ use borrow.Author.Tests.{eqb-true, leb-true, leb-false, eq-eqb, ne-eqb}
 use Rattle.base.proofs.Lists.{sets-front}
 use Rattle.packet.specs.Packet.{command-byte, total, checksum, escape-byte, escape, fields, packet-of, packet, has-escape}
 use Rattle.packet.proofs.PacketLaws.{checksum-snoc}
-use Rattle.controller.specs.declared.bus.Phase.{Phase}
-use Rattle.controller.specs.declared.bus.Phase.the-variants.{Idle, Command, Length, Data, Checksum}
-use Rattle.controller.specs.declared.bus.Collected.{Collected}
-use Rattle.controller.specs.declared.bus.Controller.{Controller}
+use Rattle.bus.specs.declared.Phase.{Phase}
+use Rattle.bus.specs.declared.Phase.the-variants.{Idle, Command, Length, Data, Checksum}
+use Rattle.bus.specs.declared.Collected.{Collected}
+use Rattle.bus.specs.declared.Controller.{Controller}
 use Rattle.settings.specs.declared.settings.Settings.{Settings}
 use Rattle.settings.specs.declared.settings.Flag.the-variants.{Incomplete, EscapeSeen}
 use Rattle.settings.specs.Settings.{set-bit, flagged}
 use Rattle.registers.specs.Commands.{perform}
-use Rattle.controller.specs.Bus.{
+use Rattle.bus.specs.Bus.{
   flagged as flagged-controller,
   is-idle,
   opening,
@@ -38,9 +38,9 @@ use Rattle.controller.specs.Bus.{
   inside,
   after,
 }
-use Rattle.controller.specs.Run.{run}
-use Rattle.controller.specs.BusTheorems.{PacketRead, ReadsBack}
-use Rattle.controller.proofs.RunLaws.{run-append}
+use Rattle.bus.specs.Run.{run}
+use Rattle.bus.specs.BusTheorems.{PacketRead, ReadsBack}
+use Rattle.bus.proofs.RunLaws.{run-append}
 
 -- ---- "escape seen" twice is once
 

@@ -4,9 +4,9 @@ use mathlib.Core.Path.{_≡_, refl, ap}
 use mathlib.Core.List.{List, [], _∷_, _++_}
 use lib.ListN.{length, take, getD}
 use Rattle.base.proofs.Lists.{take-more}
-use Rattle.controller.specs.declared.bus.Controller.{Controller}
-use Rattle.controller.specs.Bus.{exchange}
-use Rattle.controller.specs.Run.{run, outs}
+use Rattle.bus.specs.declared.Controller.{Controller}
+use Rattle.bus.specs.Bus.{exchange}
+use Rattle.bus.specs.Run.{run, outs}
 
 pub run-append : (xs ys : List ℕ) (c : Controller) → run c (xs ++ ys) ≡ run (run c xs) ys
 unfolding run

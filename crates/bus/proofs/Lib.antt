@@ -1,0 +1,10 @@
+pub mod Agreement
+pub mod CommandTable
+pub mod Effect
+pub mod Examples
+pub mod Keeps
+pub mod NothingBefore
+pub mod ReadsBack
+pub mod RunLaws
+pub mod Settles
+pub mod StatusBits

@@ -1,0 +1,6 @@
+pub mod AsWritten
+pub mod Bus
+pub mod BusTheorems
+pub mod CommandTheorems
+pub mod Examples
+pub mod Run
