@@ -18,7 +18,7 @@ use Rattle.settings.specs.Settings.{no-flags}
 use Rattle.registers.specs.declared.lookup.Register.{Register}
 use Rattle.registers.specs.declared.lookup.Register.the-variants.{Backlight, Master, Park, Splash, Strength, Heater, Bezel, Status, Pixels}
 use Rattle.registers.specs.Commands.{lookup, access, reply-of, failed, written, write-register, perform-offered, perform-found, perform-looked-up, perform}
-use Rattle.registers.specs.Block.{StatusHeld}
+use Rattle.settings.specs.Range.{StatusHeld}
 use Rattle.bus.specs.AsWritten.{Row, table, find, Outcome, outcome, command, command-found}
 use Rattle.base.proofs.Tests.{cond-cases, if-both, unless-both}
 use Rattle.bus.specs.CommandTheorems.{Described, Alike, unknown, known, TableAlike, StatusFits, PerformedAlike}

@@ -11,10 +11,10 @@ use Rattle.packet.specs.declared.writer.Access.the-variants.{Write, Read}
 use Rattle.settings.specs.declared.settings.Settings.{Settings}
 use Rattle.settings.specs.declared.settings.Flag.{Flag}
 use Rattle.settings.specs.Settings.{flagged}
+use Rattle.settings.specs.Range.{StatusHeld, Held}
 use Rattle.registers.specs.declared.lookup.Register.{Register}
 use Rattle.registers.specs.declared.lookup.Lookup.{Lookup}
 use Rattle.registers.specs.declared.lookup.Lookup.the-variants.{Found, Unknown}
-use Rattle.registers.specs.Block.{StatusHeld, Held}
 use Rattle.registers.specs.Commands.{lookup, access, offers, data-count, request-length, accepts, written, reply-of, after-read, locked, perform}
 use Rattle.bus.specs.AsWritten.{Row, table, find, command-found}
 

@@ -10,7 +10,8 @@ use lib.Dec.{T, eqb, leb}
 use borrow.Author.Tests.{eq-eqb, le-leb, le-ltb, eqb-true, leb-true, ltb-false, not-true}
 use Rattle.number.specs.Number.{le16, le16-bytes, le32, le32-bytes}
 use Rattle.registers.specs.Block.{block}
-use Rattle.registers.proofs.BlockTheorems.{block-read, block-bytes, from-block-held, held-in-range}
+use Rattle.settings.proofs.RangeLaws.{held-in-range}
+use Rattle.registers.proofs.BlockTheorems.{block-read, block-bytes, from-block-held}
 use Rattle.base.specs.Bytes.{Bytes}
 use Rattle.base.proofs.ByteLaws.{bytes-cons, bytes-append, bytes-drop, bytes-each}
 use Rattle.base.proofs.Tests.{cond-cases, both-true}

@@ -8,8 +8,9 @@ use lib.ListN.{length, getD, drop}
 use lib.Dec.{eqb, leb}
 use Rattle.number.specs.Number.{le16, le16-bytes, le32, le32-bytes}
 use Rattle.settings.specs.declared.settings.Settings.{Settings}
+use Rattle.settings.specs.Range.{in-range, Held}
 use Rattle.frame.specs.Frame.{Change, command, raise, lower, Frame, opening, welcome, order, ack, refuse, too-long, ValidChange}
-use Rattle.registers.specs.Block.{block, from-block, in-range, Held}
+use Rattle.registers.specs.Block.{block, from-block}
 
 -- ---- to bytes
 

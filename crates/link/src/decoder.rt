@@ -12,7 +12,6 @@ use number::le16;
 use number::le32;
 use number::rest;
 use registers::from_block;
-use registers::in_range;
 ghost use mathlib.Core.Path.{_≡_};
 ghost use mathlib.Core.Option.{some};
 ghost use Rattle.frame.specs.View.{frame-of, meaning};
@@ -133,7 +132,7 @@ fn allowed(frame: Frame) -> bool
     match kind {
         Kind::Malformed => false,
         Kind::Opening => true,
-        Kind::Welcome => in_range(frame.settings),
+        Kind::Welcome => frame.settings.in_range(),
         Kind::Order => 1 <= number.0,
         Kind::Ack => true,
         Kind::Refuse(refusal) => refusal_allowed(frame.session, refusal),

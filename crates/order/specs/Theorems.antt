@@ -4,7 +4,7 @@ use mathlib.Core.Path.{_≡_}
 use lib.ListN.{length, replicate}
 use Rattle.packet.specs.Packet.{data-most}
 use Rattle.settings.specs.declared.settings.Settings.{Settings}
-use Rattle.registers.specs.Block.{Held}
+use Rattle.settings.specs.Range.{Held}
 use Rattle.bus.specs.declared.Controller.{Controller}
 use Rattle.bus.specs.Run.{run, Ready}
 use Rattle.frame.specs.Frame.{Change, ValidChange}

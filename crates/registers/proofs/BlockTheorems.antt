@@ -5,16 +5,14 @@ use mathlib.Core.Path.{_≡_, refl, ap, _∙_}
 use mathlib.Core.List.{List}
 use lib.ListN.{drop}
 use lib.IntN.{ℤ, natAbs}
-use mathlib.Core.Bool.{true}
-use lib.Dec.{leb}
-use borrow.Author.Tests.{leb-true, le-leb}
+use borrow.Author.Tests.{leb-true}
 use Rattle.number.proofs.NumberLaws.{le16-read}
 use Rattle.number.specs.Signed.{offset, magnitude, sign}
 use Rattle.number.proofs.SignedLaws.{magnitude-range, sign-range, natAbs-offset, offset-read}
-use Rattle.settings.specs.Settings.{fresh}
 use Rattle.settings.specs.declared.settings.Settings.{Settings}
-use Rattle.settings.specs.declared.settings.Switches.{Switches}
-use Rattle.registers.specs.Commands.{switch-limit, strength-limit, offset-bytes, switches-from, offset-from, bezel-from, area-from, status-from}
+use Rattle.settings.specs.Range.{switches-in-range, OffsetsHeld, AreaHeld, StatusHeld}
+use Rattle.settings.proofs.RangeLaws.{switches-held}
+use Rattle.registers.specs.Commands.{offset-bytes, switches-from, offset-from, bezel-from, area-from, status-from}
 use Rattle.registers.specs.Block.{
   switches-at,
   heater-at,
@@ -23,13 +21,6 @@ use Rattle.registers.specs.Block.{
   status-at,
   block,
   from-block,
-  switches-in-range,
-  in-range,
-  SwitchesHeld,
-  OffsetsHeld,
-  AreaHeld,
-  StatusHeld,
-  Held,
 }
 use Rattle.registers.specs.Theorems.{BlockLong, BlockRead, FromBlockHeld, BlockBytes}
 use Rattle.base.specs.Bytes.{Bytes}
@@ -85,20 +76,6 @@ module _ (d : List ℕ) (h : Bytes d) where
   status-from-held : StatusHeld (status-from d)
   status-from-held = record { first = h 0; second = h 1; third = h 2; fourth = h 3 }
 
--- ---- settings in range
-
-switches-held : (w : Switches) → switches-in-range w ≡ true → SwitchesHeld w
-switches-held w e =
-    let strength = both-true _ (leb (w .strength) strength-limit) e in
-    let splash = both-true _ (leb (w .splash) switch-limit) (strength .0) in
-    let park = both-true (leb (w .master) switch-limit) (leb (w .park) switch-limit) (splash .0) in
-    record {
-      master = leb-true _ _ (park .0);
-      park = leb-true _ _ (park .1);
-      splash = leb-true _ _ (splash .1);
-      strength = leb-true _ _ (strength .1);
-    }
-
 pub from-block-held : FromBlockHeld
 unfolding from-block
 from-block-held d h e =
@@ -112,15 +89,6 @@ from-block-held d h e =
       status = status-from-held (drop status-at d) (bytes-drop status-at d h);
     }
 
--- settings that a controller could hold are in range
-pub held-in-range : (σ : Settings) → Held σ → in-range σ ≡ true
-held-in-range σ h =
-    let w = h .switches in
-    rw (le-leb _ _ (w .master), le-leb _ _ (w .park), le-leb _ _ (w .splash), le-leb _ _ (w .strength), le-leb _ _ (h .heater .duty))
-
 pub block-bytes : BlockBytes
 unfolding block
 block-bytes σ h = bytes-each (block σ) (search (arith, sign-range (σ .bezel .horizontal), sign-range (σ .bezel .vertical)))
-
-pub fresh-held : Held fresh
-fresh-held = search arith

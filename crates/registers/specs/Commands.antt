@@ -48,6 +48,7 @@ use Rattle.settings.specs.Settings.{
   flagged,
   cleared,
 }
+use Rattle.settings.specs.Range.{switch-limit, strength-limit, duty-limit}
 
 -- ---- what a command byte asks for
 
@@ -88,17 +89,7 @@ abbrev pub request-length : Register → Access → ℕ
 request-length r Write = data-count r
 request-length r Read = 0
 
--- ---- the largest values that are accepted
-
--- of master, park and splash mode
-abbrev pub switch-limit : ℕ
-switch-limit = 1
-
-abbrev pub strength-limit : ℕ
-strength-limit = 2
-
-abbrev pub duty-limit : ℕ
-duty-limit = 100
+-- ---- which data a write accepts
 
 abbrev pub at-most : List ℕ → ℕ → ℕ → Bool
 at-most d i most = leb (getD d i 0) most

@@ -6,7 +6,8 @@ use mathlib.Core.List.{List}
 use lib.ListN.{length}
 use Rattle.base.specs.Bytes.{Bytes}
 use Rattle.settings.specs.declared.settings.Settings.{Settings}
-use Rattle.registers.specs.Block.{block-length, block, from-block, in-range, Held}
+use Rattle.settings.specs.Range.{in-range, Held}
+use Rattle.registers.specs.Block.{block-length, block, from-block}
 
 -- every block has that length
 abbrev pub BlockLong : Type 0

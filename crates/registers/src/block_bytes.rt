@@ -1,7 +1,4 @@
 // The settings block of WELCOME.
-use crate::fields::DUTY_LIMIT;
-use crate::fields::STRENGTH_LIMIT;
-use crate::fields::SWITCH_LIMIT;
 use crate::fields::area_bytes;
 use crate::fields::area_from;
 use crate::fields::bezel_bytes;
@@ -18,7 +15,6 @@ use number::low;
 use settings::Area;
 use settings::Settings;
 use settings::StatusBytes;
-use settings::Switches;
 ghost use mathlib.Core.Path.{_≡_};
 ghost use lib.Seq.{sets};
 ghost use Rattle.registers.specs.Commands as commands;
@@ -106,30 +102,4 @@ pub fn from_block(bytes: &[u8]) -> Settings
         pixels: area_from(bytes, PIXELS_AT),
         status: status_from(bytes, STATUS_AT),
     }
-}
-
-fn switches_in_range(switches: Switches) -> bool
-    ensures { λ r. ⌜ r ≡ spec.switches-in-range switches ⌝ }
-{
-    if SWITCH_LIMIT < switches.master {
-        return false;
-    }
-    if SWITCH_LIMIT < switches.park {
-        return false;
-    }
-    if SWITCH_LIMIT < switches.splash {
-        return false;
-    }
-    switches.strength <= STRENGTH_LIMIT
-}
-
-// Whether a controller could hold these settings.
-pub fn in_range(settings: Settings) -> bool
-    ensures { λ r. ⌜ r ≡ spec.in-range settings ⌝ }
-{
-    let heater = settings.heater;
-    if switches_in_range(settings.switches) {
-        return heater.duty <= DUTY_LIMIT;
-    }
-    false
 }

@@ -1,4 +1,4 @@
-// The parts of the settings in bytes and back, and the largest values of those that have a limit.
+// The parts of the settings in bytes and back.
 use number::byte;
 use number::high;
 use number::le16;
@@ -16,13 +16,6 @@ ghost use mathlib.Core.Path.{_≡_};
 ghost use lib.ListN.{drop};
 ghost use Rattle.number.specs.Number as number-spec;
 ghost use Rattle.registers.specs.Commands as spec;
-
-// Of master, park and splash mode.
-pub(crate) const SWITCH_LIMIT: u8 = 1;
-
-pub(crate) const STRENGTH_LIMIT: u8 = 2;
-
-pub(crate) const DUTY_LIMIT: u8 = 100;
 
 pub(crate) fn heater_bytes(h: HeaterDrive) -> [u8; 3]
     ensures { λ r. ⌜ r ≡ spec.heater-bytes h ⌝ }

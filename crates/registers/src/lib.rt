@@ -10,7 +10,6 @@ mod writes;
 pub use block_bytes::BLOCK;
 pub use block_bytes::block;
 pub use block_bytes::from_block;
-pub use block_bytes::in_range;
 pub use command::perform;
 pub use lookup::Lookup;
 pub use lookup::Register;

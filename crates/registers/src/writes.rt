@@ -1,7 +1,4 @@
 // Which data a write of a register accepts, and what it does to the settings.
-use crate::fields::DUTY_LIMIT;
-use crate::fields::STRENGTH_LIMIT;
-use crate::fields::SWITCH_LIMIT;
 use crate::fields::area_from;
 use crate::fields::bezel_from;
 use crate::fields::heater_from;
@@ -11,7 +8,10 @@ use crate::reply::failed;
 use crate::reply::response;
 use number::byte;
 use number::le16;
+use settings::DUTY_LIMIT;
 use settings::Flag;
+use settings::STRENGTH_LIMIT;
+use settings::SWITCH_LIMIT;
 use settings::Settings;
 ghost use mathlib.Core.Path.{_≡_};
 ghost use Rattle.registers.specs.Commands as spec;

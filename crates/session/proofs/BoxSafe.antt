@@ -10,7 +10,7 @@ use lib.Seq.{take-all}
 use lib.Dec.{eqb, leb, ltb}
 use borrow.Author.Tests.{eqb-true, ltb-true}
 use Rattle.base.proofs.Tests.{cond-cases}
-use Rattle.registers.proofs.BlockTheorems.{fresh-held}
+use Rattle.settings.proofs.RangeLaws.{fresh-held}
 use Rattle.frame.specs.Frame.{Change, ValidChange, Frame, welcome, ack, refuse}
 use Rattle.link.specs.Encoding.{encode, decode, Valid, valid-opening, valid-welcome, valid-order, valid-ack, valid-refuse}
 use Rattle.link.specs.View.{frame-limit}

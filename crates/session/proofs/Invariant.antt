@@ -7,8 +7,8 @@ use mathlib.Core.List.{List, [], _∷_, _++_, foldl, foldl-append, List·Memᴰ,
 use mathlib.Core.Option.{some, Option·getD, Option·none-ne-some}
 use lib.ListN.{length, getElem?}
 use Rattle.settings.specs.declared.settings.Settings.{Settings}
-use Rattle.registers.specs.Block.{Held}
-use Rattle.registers.proofs.BlockTheorems.{fresh-held}
+use Rattle.settings.specs.Range.{Held}
+use Rattle.settings.proofs.RangeLaws.{fresh-held}
 use Rattle.frame.specs.Frame.{Change, ValidChange, Frame, opening, welcome, order, ack, refuse}
 use Rattle.order.specs.Apply.{apply}
 use Rattle.session.specs.Calls.{Log, first-log, FitsSession}

@@ -1,6 +1,10 @@
-// The settings that a controller holds, and their status bits.
+// The settings that a controller holds, their status bits, and which of them are in range.
+mod range;
 mod settings;
 
+pub use range::DUTY_LIMIT;
+pub use range::STRENGTH_LIMIT;
+pub use range::SWITCH_LIMIT;
 pub use settings::Area;
 pub use settings::Flag;
 pub use settings::HeaterDrive;

@@ -1,7 +1,7 @@
 use borrow.Author.Needs.{needs}
 use Rattle.base.proofs.Tests.{tests}
-use Rattle.registers.proofs.block_bytes.switches_in_range.Statement.{statement}
-use Rattle.registers.proofs.block_bytes.switches_in_range.Tie as tie
+use Rattle.settings.proofs.range.switches_in_range.Statement.{statement}
+use Rattle.settings.proofs.range.switches_in_range.Tie as tie
 
 returns : tie.Need-returns
 returns c = search (needs, tests)

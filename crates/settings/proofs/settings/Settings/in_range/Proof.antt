@@ -1,7 +1,7 @@
 use borrow.Author.Needs.{needs}
 use Rattle.base.proofs.Tests.{tests}
-use Rattle.registers.proofs.block_bytes.in_range.Statement.{statement}
-use Rattle.registers.proofs.block_bytes.in_range.Tie as tie
+use Rattle.settings.proofs.settings.Settings.in_range.Statement.{statement}
+use Rattle.settings.proofs.settings.Settings.in_range.Tie as tie
 
 switches-in-range-requires : tie.Need-switches-in-range-requires
 switches-in-range-requires c κs = search needs
