@@ -1,13 +1,11 @@
--- What holds of packets and replies.
-use Prim.Native.Nat.{ℕ, _+_, _≤_}
+-- What holds of packets.
+use Prim.Native.Nat.{ℕ, _≤_}
 use mathlib.Core.Path.{_≡_}
 use mathlib.Core.List.{List, _++_}
 use lib.ListN.{length, getD, replicate}
-use Rattle.base.specs.Result.{accepted}
 use Rattle.packet.specs.declared.writer.Access.{Access}
-use Rattle.packet.specs.declared.writer.Access.the-variants.{Write, Read}
+use Rattle.packet.specs.declared.writer.Access.the-variants.{Write}
 use Rattle.packet.specs.Packet.{data-most, packet-limit, escape, packet, unescape}
-use Rattle.packet.specs.Reply.{reply, success}
 
 -- taking the escapes out of an escaped list gives the list back
 abbrev pub UnescapeEscape : Type 0
@@ -33,9 +31,3 @@ longest-data = replicate 50 0xA5 ++ replicate 205 0x5A
 
 abbrev pub LongestReached : Type 0
 LongestReached = (length longest-data ≡ data-most) × (length (packet 0x2D Write longest-data) ≡ packet-limit)
-
--- however many dummies stand before a good read's reply and whatever comes after it, the reader finds its data and its end
-abbrev pub SuccessRead : Type 0
-SuccessRead =
-    (bytes after : List ℕ) (n : ℕ) → reply Read (replicate n 0xFF ++ (success bytes ++ after)) ≡
-    accepted (record { response = 0x01; start = n + 1 + 1; count = length bytes; end = n + 1 + 1 + length bytes + 1 })

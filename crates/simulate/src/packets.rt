@@ -5,9 +5,9 @@ use crate::lending;
 use crate::print;
 use packet::Access;
 use packet::PACKET_LIMIT;
-use packet::Reply;
-use packet::ReplyRead;
 use packet::Written;
+use reply::Reply;
+use reply::ReplyRead;
 
 // packet write ID BYTES, packet read ID BYTES
 pub(crate) fn packet(
@@ -55,7 +55,7 @@ pub(crate) fn reply(
     access: Access,
     s: &[u8],
 ) -> usize {
-    match packet::read_reply(access, s) {
+    match reply::read_reply(access, s) {
         ReplyRead::Whole(r) => {
             let said = print::all(&mut *out, at, word);
             let told = found(&mut *out, said, r, s);

@@ -1,8 +1,8 @@
 use mathlib.Core.Path.{sym, _∙_}
-use Rattle.packet.proofs.Replies.{reply-missing, reply-from}
+use Rattle.reply.proofs.Replies.{reply-missing, reply-from}
 use borrow.Author.Needs.{needs}
-use Rattle.packet.proofs.reply.reply_at.Statement.{statement}
-use Rattle.packet.proofs.reply.reply_at.Tie as tie
+use Rattle.reply.proofs.reader.reply_at.Statement.{statement}
+use Rattle.reply.proofs.reader.reply_at.Tie as tie
 
 returns : tie.Need-returns
 returns c = sym (reply-missing _ _ _ (c .if1 .taken))

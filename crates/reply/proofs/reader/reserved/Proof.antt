@@ -1,7 +1,7 @@
 use borrow.Author.Needs.{needs}
 use Rattle.base.proofs.Tests.{tests}
-use Rattle.packet.proofs.reply.reserved.Statement.{statement}
-use Rattle.packet.proofs.reply.reserved.Tie as tie
+use Rattle.reply.proofs.reader.reserved.Statement.{statement}
+use Rattle.reply.proofs.reader.reserved.Tie as tie
 
 returns : tie.Need-returns
 returns c = search (needs, tests)

@@ -1,10 +1,10 @@
 use native.Mathlib.Nat.{add-sub-cancel-left}
 use mathlib.Core.Path.{sym, _∙_}
 use borrow.Author.Tests.{le-leb, lt-leb, eq-eqb, ne-eqb}
-use Rattle.packet.proofs.Replies.{payload-is}
+use Rattle.reply.proofs.Replies.{payload-is}
 use borrow.Author.Needs.{needs}
-use Rattle.packet.proofs.reply.payload_of.Statement.{statement}
-use Rattle.packet.proofs.reply.payload_of.Tie as tie
+use Rattle.reply.proofs.reader.payload_of.Statement.{statement}
+use Rattle.reply.proofs.reader.payload_of.Tie as tie
 
 sub-if1 : tie.Need-sub-if1
 sub-if1 c = search needs

@@ -1,8 +1,8 @@
 use mathlib.Core.Path.{sym, _∙_}
-use Rattle.packet.proofs.Replies.{payload-missing, payload-from}
+use Rattle.reply.proofs.Replies.{payload-missing, payload-from}
 use borrow.Author.Needs.{needs}
-use Rattle.packet.proofs.reply.payload.Statement.{statement}
-use Rattle.packet.proofs.reply.payload.Tie as tie
+use Rattle.reply.proofs.reader.payload.Statement.{statement}
+use Rattle.reply.proofs.reader.payload.Tie as tie
 
 returns : tie.Need-returns
 returns c = sym (payload-missing _ _ (c .if1 .taken))

@@ -4,11 +4,11 @@ use mathlib.Core.Path.{_≡_, sym, _∙_}
 use native.Mathlib.Nat.{add-zero, zero-add}
 use native.Mathlib.Omega.{arith}
 use borrow.Author.Tests.{eq-eqb, ne-eqb}
-use Rattle.packet.proofs.Loops.{dummies-more}
+use Rattle.reply.proofs.Replies.{dummies-more}
 use lib.ListN.{length, drop, drop-of-length-le}
-use Rattle.packet.specs.Reply.{dummies}
-use Rattle.packet.proofs.reply.dummies.Statement.{statement}
-use Rattle.packet.proofs.reply.dummies.Tie as tie
+use Rattle.reply.specs.Reply.{dummies}
+use Rattle.reply.proofs.reader.dummies.Statement.{statement}
+use Rattle.reply.proofs.reader.dummies.Tie as tie
 
 abbrev Inv-loop : tie.InvT-loop
 Inv-loop bytes at₀ at = (at ≤ length bytes) × (dummies bytes ≡ at + dummies (drop at bytes))

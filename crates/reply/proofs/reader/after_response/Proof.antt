@@ -1,8 +1,8 @@
-use Rattle.packet.specs.Reply.{after-response}
+use Rattle.reply.specs.Reply.{after-response}
 use Rattle.base.proofs.Tests.{tests}
 use borrow.Author.Needs.{needs}
-use Rattle.packet.proofs.reply.after_response.Statement.{statement}
-use Rattle.packet.proofs.reply.after_response.Tie as tie
+use Rattle.reply.proofs.reader.after_response.Statement.{statement}
+use Rattle.reply.proofs.reader.after_response.Tie as tie
 
 enum-told : tie.Need-enum-told
 enum-told c = search needs

@@ -1,6 +1,6 @@
 use borrow.Author.Needs.{needs}
-use Rattle.packet.proofs.reply.read_reply.Statement.{statement}
-use Rattle.packet.proofs.reply.read_reply.Tie as tie
+use Rattle.reply.proofs.reader.read_reply.Statement.{statement}
+use Rattle.reply.proofs.reader.read_reply.Tie as tie
 
 dummies-requires : tie.Need-dummies-requires
 dummies-requires c κs = search needs

@@ -2,15 +2,19 @@
 use mathlib.Core.Path.{_≡_}
 use mathlib.Core.Bool.{cond}
 use mathlib.Core.List.{List, _∷_}
-use Prim.Native.Nat.{ℕ, _+_, _-_, _<_, _≤_}
+use Prim.Native.Nat.{ℕ, suc, _+_, _-_, _<_, _≤_}
 use lib.ListN.{length, getD, take, drop, length-drop, drop-of-length-le}
 use lib.Seq.{getD-drop}
 use lib.Dec.{leb, eqb}
 use Rattle.packet.specs.declared.writer.Access.{Access}
 use Rattle.base.specs.Result.{refused, accepted}
 use Rattle.packet.specs.Packet.{checksum}
-use Rattle.packet.specs.Reply.{reserved, payload-of, payload-at, after-response, reply-at}
+use Rattle.reply.specs.Reply.{dummies, reserved, payload-of, payload-at, after-response, reply-at}
 use Rattle.base.proofs.Lists.{drop-more}
+
+pub dummies-more : (l : List ℕ) (i : ℕ) → i < length l → dummies (drop i l) ≡ cond (eqb (getD l i 0) 0xFF) (suc (dummies (drop (i + 1) l))) 0
+unfolding dummies
+dummies-more l i h = rw (drop-more l i h)
 
 module _ (s : List ℕ) (at : ℕ) where
   pub payload-missing : length s ≤ at → payload-at at (drop at s) ≡ refused 12

@@ -6,11 +6,12 @@ use native.Mathlib.Omega.{arith}
 use lib.ListN.{length, replicate, drop, length-append}
 use lib.Seq.{take-at, getD-at}
 use borrow.Author.Tests.{lt-leb, eq-eqb}
 use Rattle.packet.specs.declared.writer.Access.the-variants.{Read}
 use Rattle.base.specs.Result.{accepted}
 use Rattle.packet.specs.Packet.{checksum}
-use Rattle.packet.specs.Reply.{dummies, payload-of, payload-at, after-response, reply-at, success}
-use Rattle.packet.specs.Theorems.{SuccessRead}
+use Rattle.packet.specs.Reply.{success}
+use Rattle.reply.specs.Reply.{dummies, payload-of, payload-at, after-response, reply-at}
+use Rattle.reply.specs.Theorems.{SuccessRead}
 
 module _ (bytes after : List ℕ) where
   dummies-passed : (n : ℕ) → dummies (replicate n 0xFF ++ (success bytes ++ after)) ≡ n
