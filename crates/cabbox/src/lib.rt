@@ -2,7 +2,6 @@
 mod obey;
 
 use base::Refusal;
-use bus::Controller;
 use frame::Change;
 use frame::Frame;
 use frame::Kind;
@@ -36,18 +35,6 @@ struct Turn {
     cab: Cab,
     verdict: Verdict,
     frame: Frame,
-}
-
-// The box after its host started it: a fresh controller and no session open.
-pub fn restart(highest: SessionId) -> Cab
-    ensures { λ r. ⌜ r ≡ spec.started (highest .0) ⌝ }
-{
-    Cab {
-        controller: Controller::fresh(),
-        highest,
-        active: false,
-        taken: OrderNumber(0),
-    }
 }
 
 fn accepted(cab: Cab, frame: Frame) -> Turn

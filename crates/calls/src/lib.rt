@@ -65,20 +65,18 @@ pub fn run(ends: Ends, call: Call, bytes: &[u8], out: &mut [u8]) -> Answered
     ensures { λ r. ⌜ view.Runs (ends-rules ends (view.call-of call (now (bytes .entry)) (length (now (out .entry))))) r (now (out .entry)) (now (out .exit)) ⌝ }
 {
     match call {
-        Call::Restart(session) => after(
-            cabbox::restart(session),
-            ends.office,
-            Verdict::Accepted,
-            0,
-        ),
+        Call::Restart(session) => after(Cab::restarted(session), ends.office, Verdict::Accepted, 0),
         Call::BoxFrame => at_cab(ends.office, cabbox::frame_in(ends.cab, bytes, &mut *out)),
         Call::OpenSession(session) => at_office(
             ends.cab,
-            office::open(ends.office, session, &mut *out),
+            sending::open(ends.office, session, &mut *out),
         ),
-        Call::Issue(ask) => at_office(ends.cab, office::issue(ends.office, ask, bytes, &mut *out)),
-        Call::Resend(number) => at_office(ends.cab, office::resend(ends.office, number, &mut *out)),
-        Call::Reopen => at_office(ends.cab, office::reopen(ends.office, &mut *out)),
+        Call::Issue(ask) => at_office(ends.cab, issuing::issue(ends.office, ask, bytes, &mut *out)),
+        Call::Resend(number) => at_office(
+            ends.cab,
+            sending::resend(ends.office, number, &mut *out),
+        ),
+        Call::Reopen => at_office(ends.cab, sending::reopen(ends.office, &mut *out)),
         Call::OfficeFrame => taken(ends.cab, receiving::frame_in(ends.office, bytes)),
     }
 }

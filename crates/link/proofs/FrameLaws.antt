@@ -65,7 +65,7 @@ meaning-as-length Order s n c σ e = encode-length (order s n c) e
 meaning-as-length Ack s n c σ e = encode-length (ack s n) refl
 meaning-as-length (Refuse r) s n c σ e = encode-length (refuse s r) refl
 
-meaning-length : (f : FrameStruct) → length (f .change .body) ≡ data-limit → length (encoding-of (meaning f)) ≤ frame-limit
+pub meaning-length : (f : FrameStruct) → length (f .change .body) ≡ data-limit → length (encoding-of (meaning f)) ≤ frame-limit
 meaning-length f e = meaning-as-length (f .kind) (f .session .0) (f .number .0) (asked (f .change)) (f .settings) (asked-short (f .change) e)
 
 -- the same bytes sent

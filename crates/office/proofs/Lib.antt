@@ -1,2 +1,1 @@
-pub mod IssueLaws
 pub mod Turns

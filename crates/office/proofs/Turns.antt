@@ -1,27 +1,27 @@
 -- A call that is refused, or writes a frame: its contract from the refusal found and from what was done.
 use mathlib.Core.Path.{_≡_, refl, sym, subst, ap, _∙_}
+use mathlib.Core.Bool.{Bool, true, false}
 use mathlib.Core.Option.{Option, none, some, Option·some-injective, Option·none-ne-some}
-use mathlib.Core.List.{List, [], _∷_}
-use Prim.Native.Nat.{ℕ, zero, suc, _<_, _≤_}
+use mathlib.Core.List.{List}
+use Prim.Native.Nat.{ℕ, _≤_}
 use native.Mathlib.Omega.{arith}
-use native.Mathlib.Nat.{not-suc-le-zero, le-of-suc-le-suc}
-use lib.ListN.{length, getD}
-use lib.Dec.{eqb, leb, ltb}
-use borrow.Author.Tests.{ltb-true, ltb-false}
-use Rattle.base.proofs.Tests.{cond-cases}
+use lib.ListN.{length}
+use lib.Dec.{ltb}
+use borrow.Author.Tests.{le-ltb}
 use Rattle.base.specs.Refusal.{number}
 use Rattle.base.specs.declared.refusal.Refusal.{Refusal}
-use Rattle.frame.specs.Frame.{Frame, opening}
-use Rattle.frame.specs.View.{refusal-of}
+use Rattle.frame.specs.Frame.{data-limit, Frame}
+use Rattle.frame.specs.View.{meaning, refusal-of}
+use Rattle.frame.specs.declared.frame.Frame.{Frame as FrameStruct}
 use Rattle.frame.specs.declared.verdict.Verdict.{Verdict}
 use Rattle.frame.specs.declared.verdict.Verdict.the-variants.{Accepted, Refused}
-use Rattle.link.specs.View.{frame-limit}
+use Rattle.link.specs.View.{frame-limit, encoding-of, sent-bytes, sent-refusal, Sends}
+use Rattle.link.specs.declared.encoded.Sent.{Sent}
+use Rattle.link.proofs.FrameLaws.{meaning-length}
 use Rattle.session.specs.declared.Office.{Office}
-use Rattle.session.specs.declared.Order.{Order}
-use Rattle.session.specs.Office.{is-awaiting, is-live, open-session, reopen, resend}
 use Rattle.session.specs.Turn.{Turn, wrote, refused}
 use Rattle.office.specs.declared.answer.Answered.{Answered}
-use Rattle.office.specs.View.{Gives, accepted, awaiting, kept-order}
+use Rattle.office.specs.View.{Gives, accepted, sent}
 
 -- ---- a turn that refuses, or holds to Fits and writes the frame f
 
@@ -47,49 +47,29 @@ module _ {o after : Office} {Fits : Type 0} {f : Frame} where
     gives-frame e r before after' given =
         subst (λ (u : Turn Office). Gives u r before after') (sym (when-accepted d (sym told ∙ ap refusal-of e) .1)) given
 
-    pub gives-refusal : (why : Refusal) → v ≡ Refused why → (r : Answered) (out : List ℕ) → r ≡ record { office = o; verdict = Refused why; len = 0 } → Gives t r out out
-    gives-refusal why e r out made =
-        rw (when-refused d (number why) (sym told ∙ ap refusal-of e), made) (record { state-is = refl; refusal-is = refl; length-is = refl; output-is = refl })
+    pub gives-refusal : (why : Refusal) → v ≡ Refused why → (out : List ℕ) → Gives t (record { office = o; verdict = v; len = 0 }) out out
+    gives-refusal why e out =
+        rw (when-refused d (number why) (sym told ∙ ap refusal-of e), e) (record { state-is = refl; refusal-is = refl; length-is = refl; output-is = refl })
 
--- equal offices and frames give the same
-pub gives-equal : {x o : Office} {m n : Option Frame} → x ≡ o → m ≡ n → (r : Answered) (before after : List ℕ) →
-    Gives (accepted x m) r before after → Gives (accepted o n) r before after
-gives-equal p q r before after given = subst (λ (t : Turn Office). Gives t r before after) (λ i. accepted (p i) (q i)) given
+-- ---- a frame sent
 
--- ---- the rules
+-- what the link did, with the office beside it
+pub gives-sent : (o : Office) (m : Option Frame) (s : Sent) (before after : List ℕ) → Sends (encoding-of m) s before after →
+    Gives (sent o m (length before)) (record { office = o; verdict = s .verdict; len = s .len }) before after
+unfolding sent sent-bytes sent-refusal
+gives-sent o m s before after done = by-room (ltb (length before) (length (encoding-of m))) refl
+  where
+    by-room : (short : Bool) → ltb (length before) (length (encoding-of m)) ≡ short →
+        Gives (sent o m (length before)) (record { office = o; verdict = s .verdict; len = s .len }) before after
+    by-room true e =
+        rw e (record { state-is = refl; refusal-is = rw e at (done .refusal-is); length-is = rw e at (done .length-is); output-is = rw e at (done .output-is) })
+    by-room false e =
+        rw e (record { state-is = refl; refusal-is = rw e at (done .refusal-is); length-is = rw e at (done .length-is); output-is = rw e at (done .output-is) })
 
-pub open-decided : (o : Office) (s room : ℕ) → Decided o (frame-limit ≤ room) (awaiting s) (opening s) (open-session o s room)
-unfolding open-session
-open-decided o s room =
-    let D = Decided o (frame-limit ≤ room) (awaiting s) (opening s) in
-    cond-cases D (eqb s 0) _ _ (λ _. no)
-    (λ _. cond-cases D (ltb room frame-limit) _ _ (λ _. no) (λ fitting. yes (ltb-false room frame-limit fitting)))
-
-pub reopen-decided : (o : Office) (room : ℕ) → Decided o (frame-limit ≤ room) o (opening (o .session .0)) (reopen o room)
-unfolding reopen
-reopen-decided o room =
-    let D = Decided o (frame-limit ≤ room) o (opening (o .session .0)) in
-    cond-cases D (is-awaiting (o .stage)) _ _
-    (λ _. cond-cases D (ltb room frame-limit) _ _ (λ _. no) (λ fitting. yes (ltb-false room frame-limit fitting)))
-    (λ _. no)
-
-pub resend-decided : (o : Office) (n room : ℕ) → Decided o ((1 ≤ n) × (frame-limit ≤ room)) o (kept-order o n) (resend o n room)
-unfolding resend
-resend-decided o n room =
-    let D = Decided o ((1 ≤ n) × (frame-limit ≤ room)) o (kept-order o n) in
-    cond-cases D (is-live (o .stage)) _ _
-    (λ _. cond-cases D (ltb (o .confirmed .0) n) _ _
-    (λ above. cond-cases D (leb n (o .issued .0)) _ _
-    (λ _. cond-cases D (ltb room frame-limit) _ _ (λ _. no)
-    (λ fitting. yes (omega (arith, ltb-true (o .confirmed .0) n above), ltb-false room frame-limit fitting)))
-    (λ _. no))
-    (λ _. no))
-    (λ _. no)
-
--- ---- the window
-
--- an order that is there, whatever stands for one that is not
-pub order-there : (window : List Order) (i : ℕ) (d e : Order) → i < length window → getD window i d ≡ getD window i e
-order-there [] i d e h = absurd (not-suc-le-zero h)
-order-there (x ∷ window) zero d e h = refl
-order-there (x ∷ window) (suc i) d e h = order-there window i d e (le-of-suc-le-suc h)
+-- an output as long as the longest frame takes the whole of f: the turn that writes the frame it means
+pub gives-whole : {x o : Office} {n : Option Frame} (f : FrameStruct) → x ≡ o → meaning f ≡ n → (r : Answered) (before after : List ℕ) →
+    length (f .change .body) ≡ data-limit → frame-limit ≤ length before → Gives (sent x (meaning f) (length before)) r before after → Gives (accepted o n) r before after
+unfolding sent
+gives-whole f p q r before after body fits given =
+    let fitting = le-ltb (length before) (length (encoding-of (meaning f))) (omega (arith, meaning-length f body)) in
+    subst (λ (t : Turn Office). Gives t r before after) (λ i. accepted (p i) (q i)) (rw fitting at given)

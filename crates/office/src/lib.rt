@@ -1,13 +1,7 @@
-// The office end: it issues orders for one session at a time, and knows what the box has taken.
+// The office end: its word on its session, and a frame sent with the office beside it. Its other calls are in sending, issuing and receiving.
 mod answer;
-mod issuing;
-mod sending;
 mod state;
 
 pub use answer::Answered;
-pub use issuing::issue;
-pub use sending::open;
-pub use sending::reopen;
-pub use sending::resend;
-pub use state::new;
+pub use answer::send;
 pub use state::progress;

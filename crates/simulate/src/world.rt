@@ -2,7 +2,9 @@
 use bus::Controller;
 use frame::SessionId;
 use link::FRAME_LIMIT;
+use session::Cab;
 use session::Ends;
+use session::Office;
 
 // The longest output that `room` lends.
 pub(crate) const ROOM_LIMIT: usize = 512;
@@ -41,8 +43,8 @@ pub(crate) struct World {
 pub(crate) fn fresh(notes: Notes) -> World {
     World {
         ends: Ends {
-            cab: cabbox::restart(SessionId(0)),
-            office: office::new(),
+            cab: Cab::restarted(SessionId(0)),
+            office: Office::new(),
         },
         bench: Controller::fresh(),
         notes,

@@ -6,8 +6,8 @@ use Rattle.calls.proofs.run.Tie as tie
 enum-known-call : tie.Need-enum-known-call
 enum-known-call c = search needs
 
-restart-requires : tie.Need-restart-requires
-restart-requires c κs = search needs
+restarted-requires : tie.Need-restarted-requires
+restarted-requires c κs = search needs
 
 after-requires : tie.Need-after-requires
 after-requires c κs = search needs
@@ -69,7 +69,7 @@ taken-requires c κs = search needs
 returns : tie.Need-returns
 returns c =
     rw (c .before .before .before .call .given .1)
-    (restart-runs (c .after .result) _ _ _ (rw (c .before .restart .ensures) at (c .after .ensures)))
+    (restart-runs (c .after .result) _ _ _ (rw (c .before .restarted .ensures) at (c .after .ensures)))
 
 same-length : tie.Need-same-length
 same-length c = search needs
@@ -126,7 +126,7 @@ run-spec =
     tie.close
     (tie.spec
     enum-known-call
-    restart-requires
+    restarted-requires
     after-requires
     enum-told
     frame-in-requires

@@ -1,0 +1,13 @@
+use borrow.Author.Needs.{needs}
+use Rattle.base.proofs.Tests.{tests}
+use Rattle.session.proofs.Cab.restarted.Statement.{statement}
+use Rattle.session.proofs.Cab.restarted.Tie as tie
+
+fresh-requires : tie.Need-fresh-requires
+fresh-requires c κs = search needs
+
+returns : tie.Need-returns
+returns c = search (needs, tests, c .fresh .ensures)
+
+pub restarted-spec : {M : Type 1} → statement M
+restarted-spec = tie.close (tie.spec fresh-requires returns)
