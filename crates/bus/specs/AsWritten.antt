@@ -1,6 +1,7 @@
 -- The controller once more, told as document 01 tells it: the open packet is the list of its bytes, and the checks are
--- made on that list when it is whole. It shares with the definitions that the code follows only the settings and what a
--- register's read and write are. `Agrees` in BusTheorems.antt says that both answer every list of bytes alike.
+-- made on that list when it is whole. It shares with the definitions that the code follows only the settings, what a
+-- register's read and write are, the checksum and the layout of a read's reply. `Agrees` in BusTheorems.antt says that both
+-- answer every list of bytes alike.
 use Prim.Native.Nat.{ℕ, _+_, _/_, _%_, _^_}
 use mathlib.Core.Bool.{Bool, true, false, cond, not, _&&_}
 use mathlib.Core.List.{List, [], _∷_, _++_}

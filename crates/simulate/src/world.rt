@@ -69,7 +69,7 @@ pub(crate) fn first() -> World {
     })
 }
 
-// No frame written and no session opened.
+// No frame written, no session opened, and the output lent at the start.
 pub(crate) fn unwritten(mut notes: Notes) -> Notes {
     notes.box_frames = 0;
     notes.office_frames = 0;
