@@ -207,5 +207,5 @@ pub fn frame_in(cab: Cab, bytes: &[u8], out: &mut [u8]) -> Answered
             len: 0,
         };
     }
-    respond(cab, link::decode(bytes), &mut *out)
+    respond(cab, decoding::decode(bytes), &mut *out)
 }

@@ -1,4 +1,3 @@
 pub mod Building
 pub mod FrameLaws
 pub mod FrameTheorems
-pub mod Reading

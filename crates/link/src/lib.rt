@@ -1,10 +1,8 @@
-// Frames of the adjustment link to bytes and back.
-mod decoder;
+// Frames of the adjustment link to bytes.
 mod encoded;
 mod encoder;
-mod tag;
+pub mod tag;
 
-pub use decoder::decode;
 pub use encoded::Encoded;
 pub use encoded::FRAME_LIMIT;
 pub use encoded::Sent;

@@ -181,5 +181,5 @@ fn received_frame(office: Office, frame: Frame) -> Received
 pub fn frame_in(office: Office, bytes: &[u8]) -> Received
     ensures { λ r. ⌜ view.Takes (spec.frame-in office (now (bytes .entry))) r ⌝ }
 {
-    received_frame(office, link::decode(bytes))
+    received_frame(office, decoding::decode(bytes))
 }

@@ -149,7 +149,7 @@ fn second_number(kind: Kind, number: OrderNumber) -> u64 {
 
 // decode BYTES
 pub(crate) fn decoded(out: &mut Output, at: usize, bytes: &[u8]) -> usize {
-    let frame = link::decode(bytes);
+    let frame = decoding::decode(bytes);
     let kind = frame.kind;
     let n = [frame.session.0 as u64, second_number(kind, frame.number)];
     let row = b"malformed|open _|welcome _|order _ _|ack _ _|refuse _ _";
