@@ -1,9 +1,9 @@
 // The exchange over a run of bytes. The controller is taken apart once: the two arrays are changed in place, the settings
 // where a packet ends, and the rest goes from step to step by value.
-use bus::Controller;
-use bus::Exchanged;
 use crate::state::BusState;
 use crate::state::Step;
+use bus::Controller;
+use bus::Exchanged;
 use registers::REPLY_LIMIT;
 use settings::Settings;
 ghost use mathlib.Core.Path.{_≡_};

@@ -1,15 +1,15 @@
 // The steps of an exchange, on the part of a controller that changes from byte to byte. How they are written decides how
 // fast the loop over them is: docs/COMPARISON.md says what not to disturb.
-use bus::Collected;
-use bus::Controller;
-use bus::Outgoing;
-use bus::Phase;
 use crate::open_packet::add;
 use crate::open_packet::after_data;
 use crate::open_packet::after_length;
 use crate::open_packet::is_idle;
 use crate::open_packet::keep;
 use crate::open_packet::unescaped;
+use bus::Collected;
+use bus::Controller;
+use bus::Outgoing;
+use bus::Phase;
 use number::byte;
 use registers::Performed;
 use registers::REPLY_LIMIT;

@@ -6,7 +6,7 @@ use frame::OrderNumber;
 use frame::SessionId;
 use settings::Settings;
 ghost use mathlib.Core.Path.{_≡_};
-ghost use Rattle.session.specs.Box as box_spec;
+ghost use Rattle.session.specs.Box as box-spec;
 ghost use Rattle.session.specs.Office as spec;
 
 // The cab box. The highest session is the highest opened, or told at a restart; while active, it is the open one, and taken counts its orders run.
@@ -20,7 +20,7 @@ pub struct Cab {
 impl Cab {
     // The box after its host started it: a fresh controller and no session open.
     pub fn restarted(highest: SessionId) -> Cab
-        ensures { λ r. ⌜ r ≡ box_spec.started (highest .0) ⌝ }
+        ensures { λ r. ⌜ r ≡ box-spec.started (highest .0) ⌝ }
     {
         Cab {
             controller: Controller::fresh(),
