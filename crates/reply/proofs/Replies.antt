@@ -9,7 +9,7 @@ use lib.Dec.{leb, eqb}
 use Rattle.packet.specs.declared.writer.Access.{Access}
 use Rattle.base.specs.Result.{refused, accepted}
 use Rattle.packet.specs.Packet.{checksum}
-use Rattle.reply.specs.Reply.{dummies, reserved, payload-of, payload-at, after-response, reply-at}
+use Rattle.reply.specs.Reader.{dummies, reserved, payload-of, payload-at, after-response, reply-at}
 use Rattle.base.proofs.Lists.{drop-more}
 
 pub dummies-more : (l : List ℕ) (i : ℕ) → i < length l → dummies (drop i l) ≡ cond (eqb (getD l i 0) 0xFF) (suc (dummies (drop (i + 1) l))) 0

@@ -10,7 +10,7 @@ use Rattle.packet.specs.declared.writer.Access.the-variants.{Read}
 use Rattle.base.specs.Result.{accepted}
 use Rattle.packet.specs.Packet.{checksum}
 use Rattle.packet.specs.Reply.{success}
-use Rattle.reply.specs.Reply.{dummies, payload-of, payload-at, after-response, reply-at}
+use Rattle.reply.specs.Reader.{dummies, payload-of, payload-at, after-response, reply-at}
 use Rattle.reply.specs.Theorems.{SuccessRead}
 
 module _ (bytes after : List ℕ) where

@@ -6,7 +6,7 @@ use lib.ListN.{length, replicate}
 use Rattle.base.specs.Result.{accepted}
 use Rattle.packet.specs.declared.writer.Access.the-variants.{Read}
 use Rattle.packet.specs.Reply.{success}
-use Rattle.reply.specs.Reply.{reply}
+use Rattle.reply.specs.Reader.{reply}
 
 -- however many dummies stand before a good read's reply and whatever comes after it, the reader finds its data and its end
 abbrev pub SuccessRead : Type 0

@@ -6,7 +6,7 @@ ghost use mathlib.Core.Path.{_≡_};
 ghost use Prim.Native.Nat.{_≤_};
 ghost use lib.ListN.{length, drop};
 ghost use Rattle.base.specs.Result.{accepted};
-ghost use Rattle.reply.specs.Reply.{answer, reply, reply-at, response-only, dummies as dummies-of, reserved as reserved-of, after-response, payload-at, payload-of};
+ghost use Rattle.reply.specs.Reader.{answer, reply, reply-at, response-only, dummies as dummies-of, reserved as reserved-of, after-response, payload-at, payload-of};
 
 // A reply found in bytes: its data are bytes[start..start + count], and it ends before bytes[end].
 pub struct Reply {

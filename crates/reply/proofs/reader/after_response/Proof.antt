@@ -1,4 +1,4 @@
-use Rattle.reply.specs.Reply.{after-response}
+use Rattle.reply.specs.Reader.{after-response}
 use Rattle.base.proofs.Tests.{tests}
 use borrow.Author.Needs.{needs}
 use Rattle.reply.proofs.reader.after_response.Statement.{statement}

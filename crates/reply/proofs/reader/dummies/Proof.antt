@@ -6,7 +6,7 @@ use native.Mathlib.Omega.{arith}
 use borrow.Author.Tests.{eq-eqb, ne-eqb}
 use Rattle.reply.proofs.Replies.{dummies-more}
 use lib.ListN.{length, drop, drop-of-length-le}
-use Rattle.reply.specs.Reply.{dummies}
+use Rattle.reply.specs.Reader.{dummies}
 use Rattle.reply.proofs.reader.dummies.Statement.{statement}
 use Rattle.reply.proofs.reader.dummies.Tie as tie
 
