@@ -7,6 +7,7 @@ use mathlib.Core.Bool.{false}
 use mathlib.Core.List.{List}
 use lib.ListN.{length, take, length-take}
 use lib.Seq.{length-take-le}
+use lib.Dec.{ltb}
 use borrow.Author.Tests.{ltb-false, le-ltb}
 use Rattle.base.specs.Lent.{overwritten}
 use Rattle.settings.specs.declared.settings.Settings.{Settings}
@@ -65,18 +66,22 @@ meaning-as-length Order s n c σ e = encode-length (order s n c) e
 meaning-as-length Ack s n c σ e = encode-length (ack s n) refl
 meaning-as-length (Refuse r) s n c σ e = encode-length (refuse s r) refl
 
-pub meaning-length : (f : FrameStruct) → length (f .change .body) ≡ data-limit → length (encoding-of (meaning f)) ≤ frame-limit
+meaning-length : (f : FrameStruct) → length (f .change .body) ≡ data-limit → length (encoding-of (meaning f)) ≤ frame-limit
 meaning-length f e = meaning-as-length (f .kind) (f .session .0) (f .number .0) (asked (f .change)) (f .settings) (asked-short (f .change) e)
+
+-- an output as long as the longest frame is too short for none
+pub frame-fits : (f : FrameStruct) (room : ℕ) → length (f .change .body) ≡ data-limit → frame-limit ≤ room → ltb room (length (encoding-of (meaning f))) ≡ false
+frame-fits f room body fits = le-ltb room (length (encoding-of (meaning f))) (omega (arith, meaning-length f body))
 
 -- the same bytes sent
 pub sends-equal : {xs ys : List ℕ} {r : Sent} {before after : List ℕ} → Sends xs r before after → xs ≡ ys → Sends ys r before after
 sends-equal sent e = rw e at sent
 
--- an output as long as the longest frame takes the whole of any
+-- such an output takes the whole of any
 pub sent-whole : (f : FrameStruct) (r : Sent) (before after : List ℕ) → length (f .change .body) ≡ data-limit → frame-limit ≤ length before →
     Sends (encoding-of (meaning f)) r before after →
     (r .len ≡ length (encoding-of (meaning f))) × (after ≡ overwritten (encoding-of (meaning f)) before)
 unfolding sent-bytes
 sent-whole f r before after body fits sent =
-    let fitting = le-ltb (length before) (length (encoding-of (meaning f))) (omega (arith, meaning-length f body)) in
+    let fitting = frame-fits f (length before) body fits in
     (rw fitting at (sent .length-is), rw fitting at (sent .output-is))

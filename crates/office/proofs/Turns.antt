@@ -4,10 +4,8 @@ use mathlib.Core.Bool.{Bool, true, false}
 use mathlib.Core.Option.{Option, none, some, Option·some-injective, Option·none-ne-some}
 use mathlib.Core.List.{List}
 use Prim.Native.Nat.{ℕ, _≤_}
-use native.Mathlib.Omega.{arith}
 use lib.ListN.{length}
 use lib.Dec.{ltb}
-use borrow.Author.Tests.{le-ltb}
 use Rattle.base.specs.Refusal.{number}
 use Rattle.base.specs.declared.refusal.Refusal.{Refusal}
 use Rattle.frame.specs.Frame.{data-limit, Frame}
@@ -17,7 +15,7 @@ use Rattle.frame.specs.declared.verdict.Verdict.{Verdict}
 use Rattle.frame.specs.declared.verdict.Verdict.the-variants.{Accepted, Refused}
 use Rattle.link.specs.View.{frame-limit, encoding-of, sent-bytes, sent-refusal, Sends}
 use Rattle.link.specs.declared.encoded.Sent.{Sent}
-use Rattle.link.proofs.FrameLaws.{meaning-length}
+use Rattle.link.proofs.FrameLaws.{frame-fits}
 use Rattle.session.specs.declared.Office.{Office}
 use Rattle.session.specs.Turn.{Turn, wrote, refused}
 use Rattle.office.specs.declared.answer.Answered.{Answered}
@@ -71,5 +69,4 @@ pub gives-whole : {x o : Office} {n : Option Frame} (f : FrameStruct) → x ≡ 
     length (f .change .body) ≡ data-limit → frame-limit ≤ length before → Gives (sent x (meaning f) (length before)) r before after → Gives (accepted o n) r before after
 unfolding sent
 gives-whole f p q r before after body fits given =
-    let fitting = le-ltb (length before) (length (encoding-of (meaning f))) (omega (arith, meaning-length f body)) in
-    subst (λ (t : Turn Office). Gives t r before after) (λ i. accepted (p i) (q i)) (rw fitting at given)
+    subst (λ (t : Turn Office). Gives t r before after) (λ i. accepted (p i) (q i)) (rw (frame-fits f (length before) body fits) at given)

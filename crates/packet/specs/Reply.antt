@@ -1,4 +1,4 @@
--- The one reply that has data: document 01, "Refusal numbers".
+-- The one reply that has data: document 01, "Bytes on the bus".
 use Prim.Native.Nat.{ℕ}
 use mathlib.Core.List.{List, [], _∷_, _++_}
 use lib.ListN.{length}

@@ -9,7 +9,6 @@ use borrow.Author.Tests.{leb-true}
 use Rattle.number.proofs.NumberLaws.{le16-read}
 use Rattle.number.specs.Signed.{offset, magnitude, sign}
 use Rattle.number.proofs.SignedLaws.{magnitude-range, sign-range, natAbs-offset, offset-read}
-use Rattle.settings.specs.declared.settings.Settings.{Settings}
 use Rattle.settings.specs.Range.{switches-in-range, OffsetsHeld, AreaHeld, StatusHeld}
 use Rattle.settings.proofs.RangeLaws.{switches-held}
 use Rattle.registers.specs.Commands.{offset-bytes, switches-from, offset-from, bezel-from, area-from, status-from}
