@@ -17,12 +17,12 @@ use Rattle.base.proofs.Lists.{drop-more}
 use Rattle.settings.specs.declared.settings.Settings.{Settings}
 use Rattle.settings.specs.declared.settings.Flag.the-variants.{Incomplete, EscapeSeen, BytesIgnored, WrongChecksum}
 use Rattle.bus.specs.declared.Outgoing.{Outgoing}
-use Rattle.registers.specs.declared.reply.Performed.{Performed}
+use Rattle.bus.specs.declared.command.Performed.{Performed}
 use Rattle.bus.specs.declared.Phase.{Phase}
 use Rattle.bus.specs.declared.Phase.the-variants.{Idle, Command, Length, Data, Checksum}
 use Rattle.bus.specs.declared.Collected.{Collected}
 use Rattle.bus.specs.declared.Controller.{Controller}
-use Rattle.registers.specs.Commands.{reply-limit, reply-of}
+use Rattle.bus.specs.Commands.{reply-limit, reply-of}
 use Rattle.bus.specs.Bus.{
   is-idle,
   waiting,

@@ -9,15 +9,15 @@ use lib.ListN.{length}
 use lib.Dec.{eqb}
 use borrow.Author.Tests.{eqb-true}
 use Rattle.packet.specs.declared.writer.Access.the-variants.{Write, Read}
-use Rattle.registers.specs.declared.lookup.Lookup.{Lookup}
-use Rattle.registers.specs.declared.reply.Performed.{Performed}
+use Rattle.bus.specs.declared.command.Lookup.{Lookup}
+use Rattle.bus.specs.declared.command.Performed.{Performed}
 use Rattle.settings.specs.declared.settings.Settings.{Settings}
 use Rattle.settings.specs.declared.settings.Flag.{Flag}
 use Rattle.settings.specs.declared.settings.Flag.the-variants.{NotAvailable, InvalidCommand, OutOfRange, WrongLength}
 use Rattle.settings.specs.Settings.{no-flags}
-use Rattle.registers.specs.declared.lookup.Register.{Register}
-use Rattle.registers.specs.declared.lookup.Register.the-variants.{Backlight, Master, Park, Splash, Strength, Heater, Bezel, Status, Pixels}
-use Rattle.registers.specs.Commands.{lookup, access, reply-of, failed, written, write-register, perform-offered, perform-found, perform-looked-up, perform}
+use Rattle.bus.specs.declared.command.Register.{Register}
+use Rattle.bus.specs.declared.command.Register.the-variants.{Backlight, Master, Park, Splash, Strength, Heater, Bezel, Status, Pixels}
+use Rattle.bus.specs.Commands.{lookup, access, reply-of, failed, written, write-register, perform-offered, perform-found, perform-looked-up, perform}
 use Rattle.settings.specs.Range.{StatusHeld}
 use Rattle.bus.specs.AsWritten.{Row, table, find, Outcome, outcome, command, command-found}
 use Rattle.base.proofs.Tests.{cond-cases, if-both, unless-both}

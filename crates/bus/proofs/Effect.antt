@@ -13,13 +13,13 @@ use Rattle.packet.specs.declared.writer.Access.the-variants.{Write, Read}
 use Rattle.bus.specs.declared.Phase.{Phase}
 use Rattle.bus.specs.declared.Phase.the-variants.{Idle, Command, Length, Data, Checksum}
 use Rattle.bus.specs.declared.Controller.{Controller}
-use Rattle.registers.specs.declared.lookup.Register.{Register}
-use Rattle.registers.specs.declared.reply.Performed.{Performed}
-use Rattle.registers.specs.declared.lookup.Lookup.{Lookup}
-use Rattle.registers.specs.declared.lookup.Lookup.the-variants.{Found, Unknown}
+use Rattle.bus.specs.declared.command.Register.{Register}
+use Rattle.bus.specs.declared.command.Performed.{Performed}
+use Rattle.bus.specs.declared.command.Lookup.{Lookup}
+use Rattle.bus.specs.declared.command.Lookup.the-variants.{Found, Unknown}
 use Rattle.settings.specs.declared.settings.Settings.{Settings}
 use Rattle.settings.specs.declared.settings.Flag.the-variants.{Incomplete, NotAvailable, InvalidCommand, OutOfRange, EscapeSeen, WrongLength, BytesIgnored, WrongChecksum}
-use Rattle.registers.specs.Commands.{lookup, access, offers, request-length, data-count, accepts, locked, write-register, execute, perform-offered, perform-found, perform-looked-up}
+use Rattle.bus.specs.Commands.{lookup, access, offers, request-length, data-count, accepts, locked, write-register, execute, perform-offered, perform-found, perform-looked-up}
 use Rattle.bus.specs.Bus.{is-idle, judge, feed-at, inside, outside, start, after}
 use Rattle.bus.specs.CommandTheorems.{CommandEffect, failed, was-read, was-written, PerformOutcome, PerformWrites}
 use Rattle.bus.specs.BusTheorems.{value, Effect, unchanged, flag-set, packet-performed, EffectOnly}

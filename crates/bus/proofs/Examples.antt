@@ -3,7 +3,7 @@ use Rattle.packet.specs.Packet.{total, checksum}
 use Rattle.packet.specs.Reply.{success}
 use Rattle.settings.specs.Settings.{set-bit, flagged}
 use Rattle.number.specs.Signed.{offset}
-use Rattle.registers.specs.Commands.{lookup, access, write-register, perform-offered, perform-found}
+use Rattle.bus.specs.Commands.{lookup, access, write-register, perform-offered, perform-found}
 use Rattle.bus.specs.Bus.{after-length, after-data, start, judge, feed-at, inside, outside, after, out}
 use Rattle.bus.specs.Run.{run, outs}
 use Rattle.bus.specs.AsWritten.{table, find, command, checked, whole, closed, collected, in-packet, taken, step, steps, sent}

@@ -1,25 +1,48 @@
 -- Settings that a controller could hold stay so whatever command is performed.
-use Prim.Native.Nat.{ℕ, _/_}
+use Prim.Native.Nat.{ℕ, _/_, _<_}
 use mathlib.Core.Path.{_≡_}
 use mathlib.Core.Bool.{true}
 use mathlib.Core.List.{List}
 use lib.Dec.{eqb}
+use lib.ListN.{drop}
+use lib.IntN.{natAbs}
 use borrow.Author.Tests.{leb-true}
 use Rattle.base.proofs.Tests.{cond-cases}
-use Rattle.registers.specs.declared.lookup.Register.{Register}
-use Rattle.registers.specs.declared.lookup.Register.the-variants.{Backlight, Master, Park, Splash, Strength, Heater, Bezel, Status, Pixels}
+use Rattle.bus.specs.declared.command.Register.{Register}
+use Rattle.bus.specs.declared.command.Register.the-variants.{Backlight, Master, Park, Splash, Strength, Heater, Bezel, Status, Pixels}
 use Rattle.settings.specs.declared.settings.Settings.{Settings}
 use Rattle.settings.specs.declared.settings.Flag.the-variants.{EscapeSeen}
-use Rattle.settings.specs.Range.{Held}
+use Rattle.settings.specs.Range.{OffsetsHeld, AreaHeld, Held}
 use Rattle.settings.proofs.RangeLaws.{flagged-held, cleared-held}
-use Rattle.registers.specs.Commands.{accepts, written, after-read}
+use Rattle.bus.specs.Commands.{accepts, offset-from, bezel-from, area-from, written, after-read}
 use Rattle.bus.specs.CommandTheorems.{CommandEffect, failed, was-read, was-written, PerformHeld}
 use Rattle.bus.proofs.Effect.{perform-outcome}
 use Rattle.packet.specs.Packet.{has-escape}
 use Rattle.bus.specs.Bus.{noted}
-use Rattle.registers.proofs.BlockTheorems.{bezel-from-held, area-from-held}
 use Rattle.base.specs.Bytes.{Bytes}
+use Rattle.base.proofs.ByteLaws.{bytes-drop}
 use Rattle.number.proofs.NumberLaws.{le16-below}
+use Rattle.number.proofs.SignedLaws.{natAbs-offset}
+
+-- ---- bytes say numbers that fit
+
+offset-below : (d : List ℕ) → Bytes d → natAbs (offset-from d) < 65536
+offset-below d h = rw natAbs-offset (le16-below d h)
+
+module _ (d : List ℕ) (h : Bytes d) where
+  pub bezel-from-held : OffsetsHeld (bezel-from d)
+  bezel-from-held = record { horizontal = offset-below d h; vertical = offset-below (drop 3 d) (bytes-drop 3 d h) }
+
+  pub area-from-held : AreaHeld (area-from d)
+  area-from-held =
+      record {
+        x0 = le16-below d h;
+        y0 = le16-below (drop 2 d) (bytes-drop 2 d h);
+        x1 = le16-below (drop 4 d) (bytes-drop 4 d h);
+        y1 = le16-below (drop 6 d) (bytes-drop 6 d h);
+      }
+
+-- ---- every command
 
 after-read-held : (σ : Settings) (id : ℕ) → Held σ → Held (after-read σ id)
 after-read-held σ id h = cond-cases Held (eqb id 0x33) _ _ (λ e. cleared-held σ h) (λ e. h)

@@ -18,7 +18,7 @@ use Rattle.bus.specs.declared.Controller.{Controller}
 use Rattle.settings.specs.declared.settings.Settings.{Settings}
 use Rattle.settings.specs.declared.settings.Flag.the-variants.{Incomplete, EscapeSeen}
 use Rattle.settings.specs.Settings.{set-bit, flagged}
-use Rattle.registers.specs.Commands.{perform}
+use Rattle.bus.specs.Commands.{perform}
 use Rattle.bus.specs.Bus.{
   flagged as flagged-controller,
   is-idle,

@@ -15,13 +15,13 @@ use Rattle.packet.specs.declared.writer.Access.{Access}
 use Rattle.packet.specs.declared.writer.Access.the-variants.{Write, Read}
 use Rattle.bus.specs.declared.Phase.the-variants.{Idle}
 use Rattle.bus.specs.declared.Controller.{Controller}
-use Rattle.registers.specs.declared.lookup.Lookup.{Lookup}
-use Rattle.registers.specs.declared.lookup.Lookup.the-variants.{Found, Unknown}
-use Rattle.registers.specs.declared.reply.Performed.{Performed}
-use Rattle.registers.specs.declared.lookup.Register.{Register}
-use Rattle.registers.specs.declared.lookup.Register.the-variants.{Backlight, Master, Park, Splash, Strength, Heater, Bezel, Status, Pixels}
+use Rattle.bus.specs.declared.command.Lookup.{Lookup}
+use Rattle.bus.specs.declared.command.Lookup.the-variants.{Found, Unknown}
+use Rattle.bus.specs.declared.command.Performed.{Performed}
+use Rattle.bus.specs.declared.command.Register.{Register}
+use Rattle.bus.specs.declared.command.Register.the-variants.{Backlight, Master, Park, Splash, Strength, Heater, Bezel, Status, Pixels}
 use Rattle.settings.specs.declared.settings.Settings.{Settings}
-use Rattle.registers.specs.Commands.{
+use Rattle.bus.specs.Commands.{
   lookup,
   access as access-of,
   offers,

@@ -11,10 +11,10 @@ use lib.Dec.{eqb, leb}
 use Rattle.packet.specs.Packet.{checksum}
 use Rattle.packet.specs.Reply.{success}
 use Rattle.settings.specs.declared.settings.Settings.{Settings}
-use Rattle.registers.specs.declared.lookup.Register.{Register}
-use Rattle.registers.specs.declared.lookup.Register.the-variants.{Backlight, Master, Park, Splash, Strength, Heater, Bezel, Status, Pixels}
+use Rattle.bus.specs.declared.command.Register.{Register}
+use Rattle.bus.specs.declared.command.Register.the-variants.{Backlight, Master, Park, Splash, Strength, Heater, Bezel, Status, Pixels}
 use Rattle.settings.specs.Settings.{fresh, with-status, cleared}
-use Rattle.registers.specs.Commands.{read, written}
+use Rattle.bus.specs.Commands.{read, written}
 
 -- ---- status bits, by their numbers
 

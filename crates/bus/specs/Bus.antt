@@ -10,14 +10,14 @@ use Rattle.bus.specs.declared.Collected.{Collected}
 use Rattle.bus.specs.declared.Controller.{Controller}
 use Rattle.bus.specs.declared.Exchanged.{Exchanged}
 use Rattle.bus.specs.declared.Outgoing.{Outgoing}
-use Rattle.registers.specs.declared.reply.ReplyBytes.{ReplyBytes}
-use Rattle.registers.specs.declared.reply.Performed.{Performed}
+use Rattle.bus.specs.declared.command.ReplyBytes.{ReplyBytes}
+use Rattle.bus.specs.declared.command.Performed.{Performed}
 use Rattle.settings.specs.declared.settings.Settings.{Settings}
 use Rattle.settings.specs.declared.settings.Flag.{Flag}
 use Rattle.settings.specs.declared.settings.Flag.the-variants.{Incomplete, EscapeSeen, BytesIgnored, WrongChecksum}
 use Rattle.settings.specs.Settings as settings-spec
 use Rattle.packet.specs.Packet.{has-escape}
-use Rattle.registers.specs.Commands.{perform, reply-of}
+use Rattle.bus.specs.Commands.{perform, reply-of}
 
 abbrev pub is-idle : Phase → Bool
 is-idle Idle = true

@@ -11,7 +11,7 @@ use Rattle.packet.specs.declared.writer.Access.{Access}
 use Rattle.settings.specs.declared.settings.Settings.{Settings}
 use Rattle.settings.specs.declared.settings.Flag.{Flag}
 use Rattle.settings.specs.Settings.{flagged, cleared}
-use Rattle.registers.specs.Commands.{perform}
+use Rattle.bus.specs.Commands.{perform}
 use Rattle.bus.specs.declared.Phase.the-variants.{Idle, Checksum}
 use Rattle.bus.specs.declared.Controller.{Controller}
 use Rattle.bus.specs.Bus.{waiting, fresh, performed, exchange, opening, noted}

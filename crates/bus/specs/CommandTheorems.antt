@@ -12,10 +12,10 @@ use Rattle.settings.specs.declared.settings.Settings.{Settings}
 use Rattle.settings.specs.declared.settings.Flag.{Flag}
 use Rattle.settings.specs.Settings.{flagged}
 use Rattle.settings.specs.Range.{StatusHeld, Held}
-use Rattle.registers.specs.declared.lookup.Register.{Register}
-use Rattle.registers.specs.declared.lookup.Lookup.{Lookup}
-use Rattle.registers.specs.declared.lookup.Lookup.the-variants.{Found, Unknown}
-use Rattle.registers.specs.Commands.{lookup, access, offers, data-count, request-length, accepts, written, reply-of, after-read, locked, perform}
+use Rattle.bus.specs.declared.command.Register.{Register}
+use Rattle.bus.specs.declared.command.Lookup.{Lookup}
+use Rattle.bus.specs.declared.command.Lookup.the-variants.{Found, Unknown}
+use Rattle.bus.specs.Commands.{lookup, access, offers, data-count, request-length, accepts, written, reply-of, after-read, locked, perform}
 use Rattle.bus.specs.AsWritten.{Row, table, find, command-found}
 
 -- ---- the registers as the paper's table has them

@@ -2,5 +2,6 @@ pub mod AsWritten
 pub mod Bus
 pub mod BusTheorems
 pub mod CommandTheorems
+pub mod Commands
 pub mod Examples
 pub mod Run

@@ -1,5 +1,11 @@
 // What the stand-in controller holds. The rules of its byte exchange are in specs/, the code that keeps them in controller.
-use registers::REPLY_LIMIT;
+mod command;
+
+pub use command::Lookup;
+pub use command::Performed;
+pub use command::REPLY_LIMIT;
+pub use command::Register;
+pub use command::ReplyBytes;
 use settings::Settings;
 ghost use mathlib.Core.Path.{_≡_};
 ghost use Rattle.bus.specs.Bus as spec;

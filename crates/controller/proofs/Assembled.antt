@@ -9,7 +9,7 @@ use Rattle.base.proofs.Tests.{tests}
 use Rattle.settings.specs.declared.settings.Settings.{Settings}
 use Rattle.settings.specs.declared.settings.Flag.the-variants.{Incomplete, BytesIgnored}
 use Rattle.settings.specs.Settings as settings-spec
-use Rattle.registers.specs.Commands.{reply-limit}
+use Rattle.bus.specs.Commands.{reply-limit}
 use Rattle.bus.specs.declared.Controller.{Controller}
 use Rattle.controller.specs.declared.state.BusState.{BusState}
 use Rattle.bus.specs.Bus as bus

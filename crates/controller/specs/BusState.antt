@@ -9,7 +9,7 @@ use Rattle.bus.specs.declared.Controller.{Controller}
 use Rattle.controller.specs.declared.state.BusState.{BusState}
 use Rattle.controller.specs.declared.state.Step.{Step}
 use Rattle.controller.specs.declared.state.Step.the-variants.{Next, Checksum}
-use Rattle.registers.specs.declared.reply.Performed.{Performed}
+use Rattle.bus.specs.declared.command.Performed.{Performed}
 use Rattle.settings.specs.declared.settings.Settings.{Settings}
 use Rattle.settings.specs.Settings.{with-status, fresh}
 use Rattle.bus.specs.Bus.{controller-of, ended, judge}

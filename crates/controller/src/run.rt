@@ -4,7 +4,7 @@ use crate::state::BusState;
 use crate::state::Step;
 use bus::Controller;
 use bus::Exchanged;
-use registers::REPLY_LIMIT;
+use bus::REPLY_LIMIT;
 use settings::Settings;
 ghost use mathlib.Core.Path.{_≡_};
 ghost use mathlib.Core.List.{_++_};

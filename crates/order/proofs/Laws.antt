@@ -6,7 +6,7 @@ use native.Mathlib.Omega.{arith}
 use lib.ListN.{length, length-take, replicate}
 use Rattle.packet.specs.Packet.{data-most, packet-of}
 use Rattle.bus.specs.declared.Controller.{Controller}
-use Rattle.registers.specs.Commands.{perform}
+use Rattle.bus.specs.Commands.{perform}
 use Rattle.bus.specs.Bus.{waiting, opening, noted}
 use Rattle.bus.specs.Run.{run, Ready}
 use Rattle.bus.proofs.RunLaws.{run-append}

@@ -9,7 +9,7 @@ use Rattle.packet.specs.Writer.{built}
 use Rattle.packet.specs.declared.builder.Packet.{Packet}
 use Rattle.base.specs.Lent.{overwritten}
 use Rattle.settings.specs.declared.settings.Settings.{Settings}
-use Rattle.registers.specs.Commands.{perform}
+use Rattle.bus.specs.Commands.{perform}
 use Rattle.bus.specs.Bus.{noted}
 use Rattle.frame.specs.Frame.{data-limit, Change, command, raise, lower}
 use Rattle.order.specs.declared.change.Resolved.{Resolved}

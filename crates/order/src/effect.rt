@@ -12,7 +12,7 @@ ghost use mathlib.Core.Path.{_≡_};
 ghost use Prim.Native.Nat.{_≤_};
 ghost use lib.ListN.{take};
 ghost use Rattle.packet.specs.Packet.{packet-limit};
-ghost use Rattle.registers.specs.Commands.{perform as perform-of};
+ghost use Rattle.bus.specs.Commands.{perform as perform-of};
 ghost use Rattle.packet.specs.Packet.{has-escape as has-escape-of};
 ghost use Rattle.bus.specs.Bus.{noted};
 ghost use Rattle.frame.specs.View.{asked};

@@ -8,10 +8,11 @@ use lib.IntN.{ℤ, natAbs}
 use borrow.Author.Tests.{leb-true}
 use Rattle.number.proofs.NumberLaws.{le16-read}
 use Rattle.number.specs.Signed.{offset, magnitude, sign}
-use Rattle.number.proofs.SignedLaws.{magnitude-range, sign-range, natAbs-offset, offset-read}
-use Rattle.settings.specs.Range.{switches-in-range, OffsetsHeld, AreaHeld, StatusHeld}
+use Rattle.number.proofs.SignedLaws.{magnitude-range, sign-range, offset-read}
+use Rattle.settings.specs.Range.{switches-in-range, StatusHeld}
 use Rattle.settings.proofs.RangeLaws.{switches-held}
-use Rattle.registers.specs.Commands.{offset-bytes, switches-from, offset-from, bezel-from, area-from, status-from}
+use Rattle.bus.specs.Commands.{offset-bytes, switches-from, offset-from, status-from}
+use Rattle.bus.proofs.Keeps.{bezel-from-held, area-from-held}
 use Rattle.registers.specs.Block.{
   switches-at,
   heater-at,
@@ -56,24 +57,8 @@ block-read σ h =
 
 -- ---- bytes say numbers that fit
 
-pub offset-below : (d : List ℕ) → Bytes d → natAbs (offset-from d) < 65536
-offset-below d h = rw natAbs-offset (le16-below d h)
-
-module _ (d : List ℕ) (h : Bytes d) where
-  pub bezel-from-held : OffsetsHeld (bezel-from d)
-  bezel-from-held = record { horizontal = offset-below d h; vertical = offset-below (drop 3 d) (bytes-drop 3 d h) }
-
-  pub area-from-held : AreaHeld (area-from d)
-  area-from-held =
-      record {
-        x0 = le16-below d h;
-        y0 = le16-below (drop 2 d) (bytes-drop 2 d h);
-        x1 = le16-below (drop 4 d) (bytes-drop 4 d h);
-        y1 = le16-below (drop 6 d) (bytes-drop 6 d h);
-      }
-
-  status-from-held : StatusHeld (status-from d)
-  status-from-held = record { first = h 0; second = h 1; third = h 2; fourth = h 3 }
+status-from-held : (d : List ℕ) → Bytes d → StatusHeld (status-from d)
+status-from-held d h = record { first = h 0; second = h 1; third = h 2; fourth = h 3 }
 
 pub from-block-held : FromBlockHeld
 unfolding from-block

@@ -4,7 +4,7 @@ use mathlib.Core.List.{List, _++_}
 use lib.ListN.{drop}
 use Rattle.number.specs.Number.{le16, le16-bytes}
 use Rattle.settings.specs.declared.settings.Settings.{Settings}
-use Rattle.registers.specs.Commands.{
+use Rattle.bus.specs.Commands.{
   switch-bytes,
   heater-bytes,
   bezel-bytes,

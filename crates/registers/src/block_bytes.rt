@@ -17,7 +17,7 @@ use settings::Settings;
 use settings::StatusBytes;
 ghost use mathlib.Core.Path.{_≡_};
 ghost use lib.Seq.{sets};
-ghost use Rattle.registers.specs.Commands as commands;
+ghost use Rattle.bus.specs.Commands as commands;
 ghost use Rattle.registers.specs.Block as spec;
 
 // Where the parts begin; the backlight is first.

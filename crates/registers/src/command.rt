@@ -1,19 +1,19 @@
 // What each command does to the settings, and what it answers.
-use crate::lookup::Lookup;
-use crate::lookup::Register;
 use crate::lookup::access;
 use crate::lookup::lookup_id;
 use crate::lookup::offers;
 use crate::lookup::request_length;
 use crate::reads::read_register;
-use crate::reply::Performed;
 use crate::reply::failed;
 use crate::writes::write_register;
+use bus::Lookup;
+use bus::Performed;
+use bus::Register;
 use packet::Access;
 use settings::Flag;
 use settings::Settings;
 ghost use mathlib.Core.Path.{_≡_};
-ghost use Rattle.registers.specs.Commands as spec;
+ghost use Rattle.bus.specs.Commands as spec;
 
 fn execute(
     settings: Settings,

@@ -15,7 +15,7 @@ use settings::Switches;
 ghost use mathlib.Core.Path.{_≡_};
 ghost use lib.ListN.{drop};
 ghost use Rattle.number.specs.Number as number-spec;
-ghost use Rattle.registers.specs.Commands as spec;
+ghost use Rattle.bus.specs.Commands as spec;
 
 pub(crate) fn heater_bytes(h: HeaterDrive) -> [u8; 3]
     ensures { λ r. ⌜ r ≡ spec.heater-bytes h ⌝ }

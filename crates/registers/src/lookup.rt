@@ -1,25 +1,9 @@
 // What a command byte asks for: its register, its way of access, and the length of its data.
+use bus::Lookup;
+use bus::Register;
 use packet::Access;
 ghost use mathlib.Core.Path.{_≡_};
-ghost use Rattle.registers.specs.Commands as spec;
-
-pub enum Register {
-    Backlight,
-    Master,
-    Park,
-    Splash,
-    Strength,
-    Heater,
-    Bezel,
-    Status,
-    Pixels,
-}
-
-// What an ID stands for.
-pub enum Lookup {
-    Found(Register),
-    Unknown,
-}
+ghost use Rattle.bus.specs.Commands as spec;
 
 pub(crate) fn lookup_id(id: u8) -> Lookup
     ensures { λ r. ⌜ r ≡ spec.lookup id ⌝ }

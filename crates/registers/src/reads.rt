@@ -3,10 +3,10 @@ use crate::fields::area_bytes;
 use crate::fields::bezel_bytes;
 use crate::fields::heater_bytes;
 use crate::fields::status_bytes;
-use crate::lookup::Register;
-use crate::reply::Performed;
-use crate::reply::ReplyBytes;
 use crate::reply::success;
+use bus::Performed;
+use bus::Register;
+use bus::ReplyBytes;
 use number::high;
 use number::low;
 use settings::Area;
@@ -18,7 +18,7 @@ ghost use mathlib.Core.Path.{_≡_};
 ghost use mathlib.Core.List.{[], _∷_};
 ghost use Rattle.number.specs.Number.{le16-bytes};
 ghost use Rattle.packet.specs.Reply.{success as success-of};
-ghost use Rattle.registers.specs.Commands as spec;
+ghost use Rattle.bus.specs.Commands as spec;
 
 fn read_backlight(level: u16) -> ReplyBytes
     ensures { λ r. ⌜ r ≡ spec.reply-of (success-of (le16-bytes level)) ⌝ }

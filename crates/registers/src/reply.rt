@@ -1,5 +1,8 @@
 // A command's reply.
 use base::store;
+use bus::Performed;
+use bus::REPLY_LIMIT;
+use bus::ReplyBytes;
 use settings::Flag;
 use settings::Settings;
 ghost use mathlib.Core.Path.{_≡_};
@@ -8,21 +11,7 @@ ghost use Prim.Native.Nat.{_≤_};
 ghost use lib.ListN.{length, replicate};
 ghost use Rattle.packet.specs.Reply.{success as success-of};
 ghost use Rattle.base.specs.Lent.{overwritten};
-ghost use Rattle.registers.specs.Commands as spec;
-
-// The longest reply: a response, a length, 8 data bytes and a sum.
-pub const REPLY_LIMIT: usize = 11;
-
-// A reply: the first len of the bytes.
-pub struct ReplyBytes {
-    pub bytes: [u8; REPLY_LIMIT],
-    pub len: u8,
-}
-
-pub struct Performed {
-    pub settings: Settings,
-    pub reply: ReplyBytes,
-}
+ghost use Rattle.bus.specs.Commands as spec;
 
 // A reply without data.
 pub fn response(code: u8) -> ReplyBytes

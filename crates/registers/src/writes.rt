@@ -2,10 +2,10 @@
 use crate::fields::area_from;
 use crate::fields::bezel_from;
 use crate::fields::heater_from;
-use crate::lookup::Register;
-use crate::reply::Performed;
 use crate::reply::failed;
 use crate::reply::response;
+use bus::Performed;
+use bus::Register;
 use number::byte;
 use number::le16;
 use settings::DUTY_LIMIT;
@@ -14,7 +14,7 @@ use settings::STRENGTH_LIMIT;
 use settings::SWITCH_LIMIT;
 use settings::Settings;
 ghost use mathlib.Core.Path.{_≡_};
-ghost use Rattle.registers.specs.Commands as spec;
+ghost use Rattle.bus.specs.Commands as spec;
 
 fn at_most(bytes: &[u8], i: usize, most: u8) -> bool
     ensures { λ r. ⌜ r ≡ spec.at-most (now (bytes .entry)) i most ⌝ }

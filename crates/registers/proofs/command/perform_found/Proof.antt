@@ -1,6 +1,6 @@
 use borrow.Author.Needs.{needs}
 use Rattle.base.proofs.Tests.{tests}
-use Rattle.registers.specs.Commands.{perform-found}
+use Rattle.bus.specs.Commands.{perform-found}
 use Rattle.registers.proofs.command.perform_found.Statement.{statement}
 use Rattle.registers.proofs.command.perform_found.Tie as tie
 

@@ -1,6 +1,6 @@
 use borrow.Author.Needs.{needs}
 use Rattle.base.proofs.Tests.{tests}
-use Rattle.registers.specs.Commands.{perform-offered}
+use Rattle.bus.specs.Commands.{perform-offered}
 use Rattle.registers.proofs.command.perform_offered.Statement.{statement}
 use Rattle.registers.proofs.command.perform_offered.Tie as tie
 

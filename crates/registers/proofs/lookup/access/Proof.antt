@@ -1,6 +1,6 @@
 use borrow.Author.Needs.{needs}
 use Rattle.base.proofs.Tests.{tests}
-use Rattle.registers.specs.Commands.{access}
+use Rattle.bus.specs.Commands.{access}
 use Rattle.registers.proofs.lookup.access.Statement.{statement}
 use Rattle.registers.proofs.lookup.access.Tie as tie
 

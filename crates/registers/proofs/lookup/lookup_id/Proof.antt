@@ -1,6 +1,6 @@
 use borrow.Author.Needs.{needs}
 use Rattle.base.proofs.Tests.{tests}
-use Rattle.registers.specs.Commands.{lookup}
+use Rattle.bus.specs.Commands.{lookup}
 use Rattle.registers.proofs.lookup.lookup_id.Statement.{statement}
 use Rattle.registers.proofs.lookup.lookup_id.Tie as tie
 

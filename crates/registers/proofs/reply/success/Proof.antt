@@ -6,7 +6,7 @@ use lib.ListN.{length, length-append, replicate}
 use Rattle.packet.specs.Packet.{checksum}
 use Rattle.packet.specs.Reply.{success}
 use Rattle.base.proofs.Lists.{overwritten-snoc}
-use Rattle.registers.specs.Commands.{reply-limit}
+use Rattle.bus.specs.Commands.{reply-limit}
 use borrow.Author.Needs.{needs}
 use Rattle.registers.proofs.reply.success.Statement.{statement}
 use Rattle.registers.proofs.reply.success.Tie as tie

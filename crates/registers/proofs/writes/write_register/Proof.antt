@@ -1,6 +1,6 @@
 use borrow.Author.Needs.{needs}
 use Rattle.base.proofs.Tests.{tests}
-use Rattle.registers.specs.Commands.{write-register}
+use Rattle.bus.specs.Commands.{write-register}
 use Rattle.registers.proofs.writes.write_register.Statement.{statement}
 use Rattle.registers.proofs.writes.write_register.Tie as tie
 

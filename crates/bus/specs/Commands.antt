@@ -11,8 +11,8 @@ use Rattle.packet.specs.declared.writer.Access.{Access}
 use Rattle.packet.specs.declared.writer.Access.the-variants.{Write, Read}
 use Rattle.packet.specs.Reply.{success}
 use Rattle.base.specs.Lent.{overwritten}
-use Rattle.registers.specs.declared.lookup.Register.{Register}
-use Rattle.registers.specs.declared.lookup.Register.the-variants.{
+use Rattle.bus.specs.declared.command.Register.{Register}
+use Rattle.bus.specs.declared.command.Register.the-variants.{
   Backlight,
   Master,
   Park,
@@ -23,10 +23,10 @@ use Rattle.registers.specs.declared.lookup.Register.the-variants.{
   Status,
   Pixels,
 }
-use Rattle.registers.specs.declared.lookup.Lookup.{Lookup}
-use Rattle.registers.specs.declared.lookup.Lookup.the-variants.{Found, Unknown}
-use Rattle.registers.specs.declared.reply.ReplyBytes.{ReplyBytes}
-use Rattle.registers.specs.declared.reply.Performed.{Performed}
+use Rattle.bus.specs.declared.command.Lookup.{Lookup}
+use Rattle.bus.specs.declared.command.Lookup.the-variants.{Found, Unknown}
+use Rattle.bus.specs.declared.command.ReplyBytes.{ReplyBytes}
+use Rattle.bus.specs.declared.command.Performed.{Performed}
 use Rattle.settings.specs.declared.settings.Settings.{Settings}
 use Rattle.settings.specs.declared.settings.Switches.{Switches}
 use Rattle.settings.specs.declared.settings.HeaterDrive.{HeaterDrive}
