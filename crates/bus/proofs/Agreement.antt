@@ -63,7 +63,7 @@ use Rattle.base.proofs.Tests.{if-both, unless-both}
 use Rattle.bus.specs.CommandTheorems.{StatusFits}
 use Rattle.bus.specs.BusTheorems.{Agrees}
 use Rattle.bus.proofs.StatusBits.{marked-alike}
-use Rattle.bus.proofs.CommandTable.{Same, failed-same, same}
+use Rattle.bus.proofs.CommandTable.{Same, checksum-sum, failed-same, same}
 
 -- ---- the unsent bytes
 
@@ -205,7 +205,7 @@ judge-alike : (σ : Settings) → StatusFits σ → (e : Bool) (r : Outgoing) (k
 unfolding judge checked
 judge-alike σ fits e r k {n} {d} {body} f room v =
     let c = controller-of Checksum e (collecting k n (checksum (k ∷ n ∷ d)) body) r σ in
-    rw (all-kept f)
+    rw (all-kept f, ← (checksum-sum (k ∷ n ∷ d)))
     (unless-both (λ (o : Outcome). Matches (closing o)) (eqb v (checksum (k ∷ n ∷ d))) (ended-alike (failed-same σ fits WrongChecksum 0x02) c room)
     (ended-alike (same σ k d fits) c room))
 

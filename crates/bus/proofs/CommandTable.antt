@@ -1,12 +1,19 @@
 -- The tests of Commands.antt are the paper's table, at every ID and for every packet.
-use Prim.Native.Nat.{ℕ, _/_, _%_}
+use Prim.Native.Nat.{ℕ, zero, suc, _+_, _*_, _/_, _%_}
+use native.Mathlib.Nat.{add-zero, mul-add-mod-self-right}
 use native.Mathlib.Omega.{arith}
-use mathlib.Core.Path.{_≡_, refl, sym, subst}
+use mathlib.Core.Path.{_≡_, refl, sym, ap, _∙_, subst}
 use mathlib.Core.Bool.{Bool, true, false, cond, not, _&&_, and-comm}
-use mathlib.Core.List.{List, [], _∷_}
-use mathlib.Core.Option.{Option}
-use lib.ListN.{length}
-use lib.Dec.{eqb}
+use mathlib.Core.List.{List, [], _∷_, _++_, foldr}
+use mathlib.Core.Option.{Option, some, Option·some-injective, Option·none-ne-some}
+use lib.ListN.{length, getD, drop}
+use lib.Seq.{getD-drop}
+use lib.IntN.{ℤ, pos, negsuc, +ℤ-idl}
+use lib.Dec.{eqb, eqb·suc-zero, leb·suc-zero}
+use Rattle.number.specs.Number.{le16, le16-bytes}
+use Rattle.number.specs.Signed.{offset, magnitude, sign}
+use Rattle.packet.specs.Packet.{total, checksum}
+use Rattle.packet.specs.Reply.{success}
 use borrow.Author.Tests.{eqb-true}
 use Rattle.packet.specs.declared.writer.Access.the-variants.{Write, Read}
 use Rattle.bus.specs.declared.command.Lookup.{Lookup}
@@ -14,17 +21,87 @@ use Rattle.bus.specs.declared.command.Performed.{Performed}
 use Rattle.settings.specs.declared.settings.Settings.{Settings}
 use Rattle.settings.specs.declared.settings.Flag.{Flag}
 use Rattle.settings.specs.declared.settings.Flag.the-variants.{NotAvailable, InvalidCommand, OutOfRange, WrongLength}
-use Rattle.settings.specs.Settings.{no-flags}
+use Rattle.settings.specs.Settings.{with-bezel, no-flags}
 use Rattle.bus.specs.declared.command.Register.{Register}
 use Rattle.bus.specs.declared.command.Register.the-variants.{Backlight, Master, Park, Splash, Strength, Heater, Bezel, Status, Pixels}
-use Rattle.bus.specs.Commands.{lookup, access, reply-of, failed, written, write-register, perform-offered, perform-found, perform-looked-up, perform}
+use Rattle.bus.specs.Commands.{lookup, access, data-count, offset-bytes, offset-from, read, reply-of, failed, written, write-register, perform-offered, perform-found, perform-looked-up, perform}
 use Rattle.settings.specs.Range.{StatusHeld}
-use Rattle.bus.specs.AsWritten.{Row, table, find, Outcome, outcome, command, command-found}
+use Rattle.bus.specs.AsWritten.{
+  number-at,
+  two-bytes,
+  negative,
+  signed,
+  signed-at,
+  signed-bytes,
+  stores-bezel,
+  stores-pixels,
+  bezel-bytes,
+  Row,
+  table,
+  find,
+  sum,
+  good-read,
+  Outcome,
+  outcome,
+  command,
+  command-found,
+}
 use Rattle.base.proofs.Tests.{cond-cases, if-both, unless-both}
-use Rattle.bus.specs.CommandTheorems.{Described, Alike, unknown, known, TableAlike, StatusFits, PerformedAlike}
+use Rattle.bus.specs.CommandTheorems.{Described, Alike, unknown, known, TableAlike, ReadCounted, StatusFits, PerformedAlike}
 use Rattle.bus.proofs.StatusBits.{marked, marked-alike}
 
+-- ---- numbers, sums and replies of both definitions
+
+number-from : (i : ℕ) (d : List ℕ) → le16 (drop i d) ≡ number-at i d
+number-from i d = rw (getD-drop i d 0 0, getD-drop i d 1 0, add-zero)
+
+offset-signed : (amount s : ℕ) → offset amount s ≡ signed amount s
+unfolding offset signed negative
+offset-signed zero zero = refl
+offset-signed (suc n) zero = +ℤ-idl (negsuc n)
+offset-signed amount (suc s) = rw eqb·suc-zero
+
+-- an amount's two bytes are those of the amount below 65536 that is kept of it
+two-bytes-kept : (n : ℕ) → le16-bytes (n % 65536) ≡ two-bytes n
+two-bytes-kept n =
+    let first : n % 65536 % 256 ≡ n % 256 = omega arith in
+    let quotient : n / 256 ≡ n / 65536 * 256 + n % 65536 / 256 = omega arith in
+    let second : n / 256 % 256 ≡ n % 65536 / 256 % 256 = ap (λ (q : ℕ). q % 256) quotient ∙ mul-add-mod-self-right (n / 65536) 256 (n % 65536 / 256) in
+    rw (first, ← second)
+
+offset-bytes-signed : (z : ℤ) → offset-bytes z ≡ signed-bytes z
+unfolding magnitude sign signed-bytes
+offset-bytes-signed (pos n) =
+    let positive : sign (pos n) ≡ 1 = rw leb·suc-zero in
+    λ i. two-bytes-kept n i ++ positive i ∷ []
+offset-bytes-signed (negsuc n) = λ i. two-bytes-kept (suc n) i ++ 0 ∷ []
+
+total-sum : (bytes : List ℕ) → total bytes ≡ foldr _+_ 0 bytes
+unfolding total
+total-sum [] = refl
+total-sum (b ∷ bs) = ap (λ (n : ℕ). b + n) (total-sum bs)
+
+pub checksum-sum : (bytes : List ℕ) → checksum bytes ≡ sum bytes
+unfolding checksum sum
+checksum-sum bytes = rw (total-sum bytes)
+
+success-good-read : (d : List ℕ) → success d ≡ good-read d
+unfolding success good-read
+success-good-read d = rw (checksum-sum (0x01 ∷ length d ∷ d))
+
 -- ---- the table
+
+stored-bezel : (σ : Settings) (d : List ℕ) → written σ Bezel d ≡ stores-bezel σ d
+stored-bezel σ d =
+    let horizontal = offset-signed (number-at 0 d) (getD d 2 0) in
+    let vertical : offset-from (drop 3 d) ≡ signed-at 3 d = rw (number-from 3 d, getD-drop 3 d 2 0) (offset-signed (number-at 3 d) (getD d 5 0)) in
+    λ i. with-bezel σ (record { horizontal = horizontal i; vertical = vertical i })
+
+stored-pixels : (σ : Settings) (d : List ℕ) → written σ Pixels d ≡ stores-pixels σ d
+stored-pixels σ d = rw (number-from 2 d, number-from 4 d, number-from 6 d)
+
+read-bezel : (σ : Settings) → read σ Bezel ≡ bezel-bytes σ
+read-bezel σ = λ i. offset-bytes-signed (σ .bezel .horizontal) i ++ offset-bytes-signed (σ .bezel .vertical) i
 
 -- at an ID, or at those after it
 at-id : (id n : ℕ) {found later : Option Row} {l m : Lookup} → (n ≡ id → Alike id found l) → Alike id later m →
@@ -37,7 +114,28 @@ at-id id n {found} {later} {l} {m} here other = by-cases (eqb id n) refl
 
 pub table-alike : TableAlike
 unfolding lookup find table
-table-alike id = search (at-id, known, unknown) depth 20
+table-alike id = search (at-id, known, unknown, stored-bezel, stored-pixels, read-bezel) depth 20
+
+-- by what the code's definitions say, register by register
+read-length : (σ : Settings) (r : Register) → length (read σ r) ≡ data-count r
+read-length σ Backlight = refl
+read-length σ Master = refl
+read-length σ Park = refl
+read-length σ Splash = refl
+read-length σ Strength = refl
+read-length σ Heater = refl
+read-length σ Bezel = refl
+read-length σ Status = refl
+read-length σ Pixels = refl
+
+pub read-counted : ReadCounted
+read-counted id row found σ = counted (table-alike id) found
+  where
+    counted : {o : Option Row} {l : Lookup} → Alike id o l → o ≡ some row → length (row .reads σ) ≡ row .count
+    counted unknown e = absurd (Option·none-ne-some row e)
+    counted (known row′ r at told) e =
+        let same-row : row′ ≡ row = Option·some-injective row′ row e in
+        subst (λ (x : Row). length (x .reads σ) ≡ x .count) same-row (ap length (sym (told .read-as σ)) ∙ read-length σ r ∙ told .write-length)
 
 -- ---- every packet
 
@@ -51,7 +149,7 @@ no-flags-fit : StatusHeld no-flags
 no-flags-fit = omega arith
 
 -- a write changes no status bit
-written-status : (σ : Settings) (r : Register) (d : List ℕ) → written σ r d .status ≡ σ .status
+pub written-status : (σ : Settings) (r : Register) (d : List ℕ) → written σ r d .status ≡ σ .status
 written-status σ Backlight d = refl
 written-status σ Master d = refl
 written-status σ Park d = refl
@@ -68,26 +166,27 @@ module _ (σ : Settings) (fits : StatusFits σ) where
   failed-same flag code = record { settled = sym (marked-alike σ fits flag .0); replied = refl; fitting = marked-alike σ fits flag .1 }
 
   -- the same checks in the same order
-  row-same : (r : Row) → Described r → (is-read : Bool) (d : List ℕ) → Same (command σ r is-read d) (perform-found σ (r .id) (r .register) (cond is-read Read Write) d)
+  row-same : (row : Row) (r : Register) → Described row r → (is-read : Bool) (d : List ℕ) →
+      Same (command σ row is-read d) (perform-found σ (row .id) r (cond is-read Read Write) d)
   unfolding command perform-found perform-offered write-register
-  row-same r told true d =
-      rw (and-comm (not (eqb (r .id) 0x01)) (eqb (σ .switches .master) 0))
-      (if-both Same (eqb (σ .switches .master) 0 && not (eqb (r .id) 0x01)) (failed-same NotAvailable 0x04)
+  row-same row r told true d =
+      rw (and-comm (not (eqb (row .id) 0x01)) (eqb (σ .switches .master) 0), ← (told .read-as σ), ← (success-good-read (read σ r)))
+      (if-both Same (eqb (σ .switches .master) 0 && not (eqb (row .id) 0x01)) (failed-same NotAvailable 0x04)
       (unless-both Same (eqb (length d) 0) (failed-same WrongLength 0x05)
-      (record { settled = refl; replied = refl; fitting = cond-cases StatusFits (eqb (r .id) 0x33) _ _ (λ e. no-flags-fit) (λ e. fits) })))
-  row-same r told false d =
-      rw (told .writes, and-comm (not (eqb (r .id) 0x01)) (eqb (σ .switches .master) 0), told .write-length, told .limited d)
-      (unless-both Same (r .writable) (failed-same InvalidCommand 0x03)
-      (if-both Same (eqb (σ .switches .master) 0 && not (eqb (r .id) 0x01)) (failed-same NotAvailable 0x04)
-      (unless-both Same (eqb (length d) (r .count)) (failed-same WrongLength 0x05)
-      (unless-both Same (r .accepted d) (failed-same OutOfRange 0x07)
-      (record { settled = refl; replied = refl; fitting = subst StatusHeld (sym (written-status σ (r .register) d)) fits })))))
+      (record { settled = refl; replied = refl; fitting = cond-cases StatusFits (eqb (row .id) 0x33) _ _ (λ e. no-flags-fit) (λ e. fits) })))
+  row-same row r told false d =
+      rw (told .writes, and-comm (not (eqb (row .id) 0x01)) (eqb (σ .switches .master) 0), told .write-length, told .limited d, ← (told .stored σ d))
+      (unless-both Same (row .writable) (failed-same InvalidCommand 0x03)
+      (if-both Same (eqb (σ .switches .master) 0 && not (eqb (row .id) 0x01)) (failed-same NotAvailable 0x04)
+      (unless-both Same (eqb (length d) (row .count)) (failed-same WrongLength 0x05)
+      (unless-both Same (row .accepted d) (failed-same OutOfRange 0x07)
+      (record { settled = refl; replied = refl; fitting = subst StatusHeld (sym (written-status σ r d)) fits })))))
 
   -- a known register or an unknown ID
   found-same : (k : ℕ) {found : Option Row} {l : Lookup} → Alike (k / 2) found l → (d : List ℕ) → Same (command-found found σ (eqb (k % 2) 1) d) (perform-looked-up l σ k d)
   unfolding access
   found-same k unknown d = failed-same InvalidCommand 0x03
-  found-same k (known r at told) d = rw (← at) (row-same r told (eqb (k % 2) 1) d)
+  found-same k (known row r at told) d = rw (← at) (row-same row r told (eqb (k % 2) 1) d)
 
 -- both definitions do the same with every command byte and data
 pub same : (σ : Settings) (k : ℕ) (d : List ℕ) → StatusFits σ → Same (command-found (find (k / 2) table) σ (eqb (k % 2) 1) d) (perform σ k d)

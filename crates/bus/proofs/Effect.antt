@@ -1,12 +1,13 @@
 -- When settings change: one exchange sets a named status bit, or completes a packet that is performed; and a performed
 -- packet writes its register exactly where it passes every check.
 use Prim.Native.Nat.{ℕ, _/_}
-use mathlib.Core.Path.{_≡_, refl, _∙_}
+use native.Mathlib.Omega.{arith}
+use mathlib.Core.Path.{_≡_, refl, sym, _∙_}
 use mathlib.Core.Bool.{false}
 use mathlib.Core.List.{List}
 use lib.ListN.{length}
 use lib.Dec.{eqb, ltb}
-use borrow.Author.Tests.{eqb-true, eq-eqb}
+use borrow.Author.Tests.{eqb-true, eqb-false, eq-eqb, ltb-true, ltb-false}
 use Rattle.base.proofs.Tests.{cond-cases}
 use Rattle.packet.specs.declared.writer.Access.{Access}
 use Rattle.packet.specs.declared.writer.Access.the-variants.{Write, Read}
@@ -18,80 +19,126 @@ use Rattle.bus.specs.declared.command.Performed.{Performed}
 use Rattle.bus.specs.declared.command.Lookup.{Lookup}
 use Rattle.bus.specs.declared.command.Lookup.the-variants.{Found, Unknown}
 use Rattle.settings.specs.declared.settings.Settings.{Settings}
-use Rattle.settings.specs.declared.settings.Flag.the-variants.{Incomplete, NotAvailable, InvalidCommand, OutOfRange, EscapeSeen, WrongLength, BytesIgnored, WrongChecksum}
-use Rattle.bus.specs.Commands.{lookup, access, offers, request-length, data-count, accepts, locked, write-register, execute, perform-offered, perform-found, perform-looked-up}
+use Rattle.bus.specs.Commands.{lookup, access, offers, request-length, accepts, locked, write-register, execute, perform-offered, perform-found, perform-looked-up, perform}
 use Rattle.bus.specs.Bus.{is-idle, judge, feed-at, inside, outside, start, after}
-use Rattle.bus.specs.CommandTheorems.{CommandEffect, failed, was-read, was-written, PerformOutcome, PerformWrites}
-use Rattle.bus.specs.BusTheorems.{value, Effect, unchanged, flag-set, packet-performed, EffectOnly}
+use Rattle.bus.specs.CommandTheorems.{
+  Known,
+  Available,
+  Requested,
+  CommandEffect,
+  unknown-id,
+  no-such-way,
+  not-available,
+  wrong-length,
+  out-of-range,
+  was-written,
+  was-read,
+  PerformOutcome,
+  PerformWrites,
+  PerformReads,
+}
+use Rattle.bus.specs.BusTheorems.{
+  value,
+  Taken,
+  OfPacket,
+  Effect,
+  starts-packet,
+  cuts-packet,
+  dummy,
+  zero-outside,
+  ignored,
+  opens-escape,
+  collected,
+  wrong-checksum,
+  packet-performed,
+  EffectOnly,
+}
 
 -- ---- a packet that is performed
 
 module _ (σ : Settings) (k : ℕ) (d : List ℕ) where
-  abbrev Ends : Performed → Type 0
-  Ends p = CommandEffect σ k d (p .settings)
+  abbrev Comes : Performed → Type 0
+  Comes = CommandEffect σ k d
 
-  write-outcome : (r : Register) → lookup (k / 2) ≡ Found r → access k ≡ Write → locked σ (k / 2) ≡ false → length d ≡ data-count r → Ends (write-register σ r d)
+  execute-outcome : (r : Register) (way : Access) → Requested σ k d r way → Comes (execute σ (k / 2) r way d)
   unfolding write-register
-  write-outcome r found way free long = cond-cases Ends (accepts r d) _ _ (λ e. was-written r found way free long e refl) (λ e. failed OutOfRange refl)
+  execute-outcome r Write passed = cond-cases Comes (accepts r d) _ _ (λ e. was-written passed e) (λ e. out-of-range passed e)
+  execute-outcome r Read passed = was-read passed
 
-  execute-outcome : (r : Register) (way : Access) → lookup (k / 2) ≡ Found r → access k ≡ way → locked σ (k / 2) ≡ false → length d ≡ request-length r way → Ends (execute σ (k / 2) r way d)
-  execute-outcome r Write found is free long = write-outcome r found is free long
-  execute-outcome r Read found is free long = was-read r found is refl
-
-  found-outcome : (r : Register) (way : Access) → lookup (k / 2) ≡ Found r → access k ≡ way → Ends (perform-found σ (k / 2) r way d)
+  found-outcome : (r : Register) (way : Access) → Known k r way → Comes (perform-found σ (k / 2) r way d)
   unfolding perform-found perform-offered
-  found-outcome r way found is =
-      cond-cases Ends (offers (k / 2) way) _ _
-      (λ o. cond-cases Ends (locked σ (k / 2)) _ _ (λ l. failed NotAvailable refl)
-      (λ l. cond-cases Ends (eqb (length d) (request-length r way)) _ _ (λ e. execute-outcome r way found is l (eqb-true _ _ e))
-      (λ e. failed WrongLength refl)))
-      (λ o. failed InvalidCommand refl)
+  found-outcome r way known =
+      cond-cases Comes (offers (k / 2) way) _ _
+      (λ o. cond-cases Comes (locked σ (k / 2)) _ _ (λ l. not-available known o l)
+      (λ l. let available : Available σ k r way = record { known = known; offered = o; unlocked = l } in
+      cond-cases Comes (eqb (length d) (request-length r way)) _ _ (λ e. execute-outcome r way (record { available = available; whole = eqb-true _ _ e }))
+      (λ e. wrong-length available (eqb-false _ _ e))))
+      (λ o. no-such-way known o)
 
-  looked-up-outcome : (l : Lookup) → lookup (k / 2) ≡ l → Ends (perform-looked-up l σ k d)
-  looked-up-outcome (Found r) e = found-outcome r (access k) e refl
-  looked-up-outcome Unknown e = failed InvalidCommand refl
+  looked-up-outcome : (l : Lookup) → lookup (k / 2) ≡ l → Comes (perform-looked-up l σ k d)
+  looked-up-outcome (Found r) e = found-outcome r (access k) (record { found = e; asked = refl })
+  looked-up-outcome Unknown e = unknown-id e
 
 pub perform-outcome : PerformOutcome
 perform-outcome σ k d = looked-up-outcome σ k d (lookup (k / 2)) refl
 
+-- a command that passes the checks up to its length is executed
+executed : (σ : Settings) (k : ℕ) (d : List ℕ) (r : Register) (way : Access) → Requested σ k d r way → perform σ k d ≡ execute σ (k / 2) r way d
+unfolding perform-found perform-offered
+executed σ k d r way passed =
+    let available = passed .available in
+    rw (available .known .found, available .known .asked) (simp (available .offered, available .unlocked, eq-eqb _ _ (passed .whole)))
+
 pub perform-writes : PerformWrites
-unfolding perform-found perform-offered write-register
-perform-writes σ k d r found way has free long fits = rw (found, way) (simp (has, free, eq-eqb _ _ long, fits))
+unfolding write-register
+perform-writes σ k d r passed fits = executed σ k d r Write passed ∙ rw fits
+
+pub perform-reads : PerformReads
+perform-reads σ k d r passed = executed σ k d r Read passed
 
 -- ---- one exchange
+
+apart : _≡_ {A = ℕ} 0 1 → ⊥
+apart e = omega arith
 
 module _ (c : Controller) (b : ℕ) where
   abbrev Leaves : Controller → Type 0
   Leaves x = Effect c b (x .settings)
 
-  start-effect : Leaves (start c)
+  start-effect : b ≡ 0xA5 → Leaves (start c)
   unfolding start
-  start-effect = cond-cases Leaves (is-idle (c .phase)) _ _ (λ e. unchanged refl) (λ e. flag-set Incomplete refl)
+  start-effect e = cond-cases Leaves (is-idle (c .phase)) _ _ (starts-packet e) (cuts-packet e)
 
-  judge-effect : (v : ℕ) → c .phase ≡ Checksum → value c b ≡ v → Leaves (judge c v)
+  judge-effect : (v : ℕ) → OfPacket c b → c .phase ≡ Checksum → value c b ≡ v → Leaves (judge c v)
   unfolding judge
-  judge-effect v e is = cond-cases Leaves (eqb v (c .packet .sum)) _ _ (λ f. packet-performed e (is ∙ eqb-true _ _ f) refl) (λ f. flag-set WrongChecksum refl)
+  judge-effect v here at is =
+      cond-cases Leaves (eqb v (c .packet .sum)) _ _ (λ f. packet-performed here at (is ∙ eqb-true _ _ f))
+      (λ f. wrong-checksum here at (λ q. eqb-false _ _ f (sym is ∙ q)))
 
-  feed-effect : (p : Phase) (v : ℕ) → c .phase ≡ p → value c b ≡ v → Leaves (feed-at p c v)
+  feed-effect : (p : Phase) (v : ℕ) → OfPacket c b → c .phase ≡ p → value c b ≡ v → Leaves (feed-at p c v)
   unfolding feed-at
-  feed-effect Idle v e is = unchanged refl
-  feed-effect Command v e is = unchanged refl
-  feed-effect Length v e is = unchanged refl
-  feed-effect (Data left) v e is = unchanged refl
-  feed-effect Checksum v e is = judge-effect v e is
+  feed-effect Idle v here at is = collected here (λ q. apart cc)
+  feed-effect Command v here at is = collected here (λ q. apart cc)
+  feed-effect Length v here at is = collected here (λ q. apart cc)
+  feed-effect (Data left) v here at is = collected here (λ q. apart cc)
+  feed-effect Checksum v here at is = judge-effect v here at is
 
-  inside-effect : Leaves (inside c b)
+  inside-effect : Taken c b → is-idle (c .phase) ≡ false → Leaves (inside c b)
   unfolding inside
-  inside-effect =
-      cond-cases Leaves (c .escape) _ _ (λ e. feed-effect (c .phase) _ refl (rw e))
-      (λ e. cond-cases Leaves (eqb b 0x5A) _ _ (λ f. flag-set EscapeSeen refl) (λ f. feed-effect (c .phase) b refl (rw e)))
+  inside-effect taken inside =
+      cond-cases Leaves (c .escape) _ _
+      (λ e. feed-effect (c .phase) _ (record { taken = taken; inside = inside; no-escape = λ q _. apart cc }) refl (rw e))
+      (λ e. cond-cases Leaves (eqb b 0x5A) _ _ (λ f. opens-escape taken inside e (eqb-true _ _ f))
+      (λ f. feed-effect (c .phase) b (record { taken = taken; inside = inside; no-escape = λ _. eqb-false _ _ f }) refl (rw e)))
 
 pub effect-only : EffectOnly
 unfolding after outside
 effect-only c b =
     let L = Leaves c b in
-    cond-cases L (eqb b 0xA5) _ _ (λ e. start-effect c b)
-    (λ e. cond-cases L (ltb (c .reply .sent) (c .reply .len)) _ _ (λ f. unchanged refl)
-    (λ f. cond-cases L (is-idle (c .phase)) _ _
-    (λ g. cond-cases L (eqb b 0x00) _ _ (λ h. unchanged refl) (λ h. flag-set BytesIgnored refl))
-    (λ g. inside-effect c b)))
+    cond-cases L (eqb b 0xA5) _ _ (λ e. start-effect c b (eqb-true _ _ e))
+    (λ e. let no-start = eqb-false b 0xA5 e in
+    cond-cases L (ltb (c .reply .sent) (c .reply .len)) _ _ (λ f. dummy no-start (ltb-true _ _ f))
+    (λ f. let taken : Taken c b = record { no-start = no-start; all-sent = ltb-false _ _ f } in
+    cond-cases L (is-idle (c .phase)) _ _
+    (λ g. cond-cases L (eqb b 0x00) _ _ (λ h. zero-outside taken g (eqb-true _ _ h)) (λ h. ignored taken g (eqb-false _ _ h)))
+    (λ g. inside-effect c b taken g)))

@@ -6,7 +6,7 @@ use Rattle.number.specs.Signed.{offset}
 use Rattle.bus.specs.Commands.{lookup, access, write-register, perform-offered, perform-found}
 use Rattle.bus.specs.Bus.{after-length, after-data, start, judge, feed-at, inside, outside, after, out}
 use Rattle.bus.specs.Run.{run, outs}
-use Rattle.bus.specs.AsWritten.{table, find, command, checked, whole, closed, collected, in-packet, taken, step, steps, sent}
+use Rattle.bus.specs.AsWritten.{negative, signed, table, find, sum, good-read, command, checked, whole, closed, collected, in-packet, taken, step, steps, sent}
 use Rattle.bus.specs.Examples.{examples, all-met, same-bytes, same-settings, MetByTheBus, MetAsWritten}
 
 pub met-by-the-bus : MetByTheBus
@@ -14,5 +14,5 @@ unfolding examples all-met same-bytes same-settings run outs after out start out
 met-by-the-bus = tt
 
 pub met-as-written : MetAsWritten
-unfolding examples all-met same-bytes same-settings steps sent step taken in-packet collected whole closed checked command find table offset success checksum total
+unfolding examples all-met same-bytes same-settings steps sent step taken in-packet collected whole closed checked command find table sum good-read signed negative
 met-as-written = tt

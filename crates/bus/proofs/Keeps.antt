@@ -11,11 +11,22 @@ use Rattle.base.proofs.Tests.{cond-cases}
 use Rattle.bus.specs.declared.command.Register.{Register}
 use Rattle.bus.specs.declared.command.Register.the-variants.{Backlight, Master, Park, Splash, Strength, Heater, Bezel, Status, Pixels}
 use Rattle.settings.specs.declared.settings.Settings.{Settings}
-use Rattle.settings.specs.declared.settings.Flag.the-variants.{EscapeSeen}
+use Rattle.settings.specs.declared.settings.Flag.the-variants.{NotAvailable, InvalidCommand, OutOfRange, EscapeSeen, WrongLength}
 use Rattle.settings.specs.Range.{OffsetsHeld, AreaHeld, Held}
 use Rattle.settings.proofs.RangeLaws.{flagged-held, cleared-held}
 use Rattle.bus.specs.Commands.{accepts, offset-from, bezel-from, area-from, written, after-read}
-use Rattle.bus.specs.CommandTheorems.{CommandEffect, failed, was-read, was-written, PerformHeld}
+use Rattle.bus.specs.declared.command.Performed.{Performed}
+use Rattle.bus.specs.CommandTheorems.{
+  CommandEffect,
+  unknown-id,
+  no-such-way,
+  not-available,
+  wrong-length,
+  out-of-range,
+  was-written,
+  was-read,
+  PerformHeld,
+}
 use Rattle.bus.proofs.Effect.{perform-outcome}
 use Rattle.packet.specs.Packet.{has-escape}
 use Rattle.bus.specs.Bus.{noted}
@@ -62,10 +73,14 @@ written-held σ Pixels d fits bytes h = search area-from-held
 pub perform-held : PerformHeld
 perform-held σ k d bytes h = by-cases (perform-outcome σ k d)
   where
-    by-cases : {end : Settings} → CommandEffect σ k d end → Held end
-    by-cases (failed flag e) = rw e (flagged-held σ flag h)
-    by-cases (was-read r _ _ e) = rw e (after-read-held σ (k / 2) h)
-    by-cases (was-written r _ _ _ _ fits e) = rw e (written-held σ r d fits bytes h)
+    by-cases : {end : Performed} → CommandEffect σ k d end → Held (end .settings)
+    by-cases (unknown-id _) = flagged-held σ InvalidCommand h
+    by-cases (no-such-way _ _) = flagged-held σ InvalidCommand h
+    by-cases (not-available _ _ _) = flagged-held σ NotAvailable h
+    by-cases (wrong-length _ _) = flagged-held σ WrongLength h
+    by-cases (out-of-range _ _) = flagged-held σ OutOfRange h
+    by-cases (was-written {r} _ fits) = written-held σ r d fits bytes h
+    by-cases (was-read _) = after-read-held σ (k / 2) h
 
 pub noted-held : (σ : Settings) (bytes : List ℕ) → Held σ → Held (noted σ bytes)
 noted-held σ bytes h = cond-cases Held (has-escape bytes) _ _ (λ e. flagged-held σ EscapeSeen h) (λ e. h)

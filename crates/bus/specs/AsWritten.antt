@@ -1,20 +1,39 @@
--- The controller once more, told as document 01 tells it: the open packet is the list of its bytes, and the checks are
--- made on that list when it is whole. It shares with the definitions that the code follows only the settings, what a
--- register's read and write are, the checksum and the layout of a read's reply. `Agrees` in BusTheorems.antt says that both
--- answer every list of bytes alike.
-use Prim.Native.Nat.{ℕ, _+_, _/_, _%_, _^_}
+-- The controller once more, told as document 01 tells it: the open packet is the list of its bytes, the checks are made on that
+-- list when it is whole, and the registers are a table. With the definitions that the code follows it shares only the record of
+-- the settings. `Agrees` in BusTheorems.antt says that both answer every list of bytes alike.
+use Prim.Native.Nat.{ℕ, zero, suc, _+_, _*_, _/_, _%_, _^_}
 use mathlib.Core.Bool.{Bool, true, false, cond, not, _&&_}
-use mathlib.Core.List.{List, [], _∷_, _++_}
+use mathlib.Core.List.{List, [], _∷_, _++_, foldr}
 use mathlib.Core.Option.{Option, none, some}
 use lib.ListN.{length, getD, take}
+use lib.IntN.{ℤ, pos, negsuc}
 use lib.Dec.{eqb, leb}
-use Rattle.packet.specs.Packet.{checksum}
-use Rattle.packet.specs.Reply.{success}
 use Rattle.settings.specs.declared.settings.Settings.{Settings}
-use Rattle.bus.specs.declared.command.Register.{Register}
-use Rattle.bus.specs.declared.command.Register.the-variants.{Backlight, Master, Park, Splash, Strength, Heater, Bezel, Status, Pixels}
-use Rattle.settings.specs.Settings.{fresh, with-status, cleared}
-use Rattle.bus.specs.Commands.{read, written}
+use Rattle.settings.specs.declared.settings.Switches.{Switches}
+use Rattle.settings.specs.declared.settings.HeaterDrive.{HeaterDrive}
+use Rattle.settings.specs.declared.settings.Offsets.{Offsets}
+use Rattle.settings.specs.declared.settings.Area.{Area}
+use Rattle.settings.specs.declared.settings.StatusBytes.{StatusBytes}
+
+-- ---- the settings by register
+
+abbrev pub settings-of : ℕ → Switches → HeaterDrive → Offsets → Area → StatusBytes → Settings
+settings-of l w h o a s = record { backlight = l; switches = w; heater = h; bezel = o; pixels = a; status = s }
+
+abbrev pub switches-of : ℕ → ℕ → ℕ → ℕ → Switches
+switches-of master park splash strength = record { master = master; park = park; splash = splash; strength = strength }
+
+abbrev pub with-switches : Settings → Switches → Settings
+with-switches σ w = settings-of (σ .backlight) w (σ .heater) (σ .bezel) (σ .pixels) (σ .status)
+
+abbrev pub with-status : Settings → ℕ → ℕ → ℕ → ℕ → Settings
+with-status σ a b c d = settings-of (σ .backlight) (σ .switches) (σ .heater) (σ .bezel) (σ .pixels) (record { first = a; second = b; third = c; fourth = d })
+
+-- master on, all else 0
+abbrev pub fresh : Settings
+fresh =
+    settings-of 0 (switches-of 1 0 0 0) (record { khz = 0; duty = 0 }) (record { horizontal = pos 0; vertical = pos 0 })
+    (record { x0 = 0; y0 = 0; x1 = 0; y1 = 0 }) (record { first = 0; second = 0; third = 0; fourth = 0 })
 
 -- ---- status bits, by their numbers
 
@@ -22,13 +41,13 @@ abbrev pub with-bit : ℕ → ℕ → ℕ
 with-bit bit b = cond (eqb (b / 2 ^ bit % 2) 1) b (b + 2 ^ bit)
 
 abbrev pub in-first : ℕ → Settings → Settings
-in-first bit σ = with-status σ (record { first = with-bit bit (σ .status .first); second = σ .status .second; third = σ .status .third; fourth = σ .status .fourth })
+in-first bit σ = with-status σ (with-bit bit (σ .status .first)) (σ .status .second) (σ .status .third) (σ .status .fourth)
 
 abbrev pub in-second : ℕ → Settings → Settings
-in-second bit σ = with-status σ (record { first = σ .status .first; second = with-bit bit (σ .status .second); third = σ .status .third; fourth = σ .status .fourth })
+in-second bit σ = with-status σ (σ .status .first) (with-bit bit (σ .status .second)) (σ .status .third) (σ .status .fourth)
 
 abbrev pub in-fourth : ℕ → Settings → Settings
-in-fourth bit σ = with-status σ (record { first = σ .status .first; second = σ .status .second; third = σ .status .third; fourth = with-bit bit (σ .status .fourth) })
+in-fourth bit σ = with-status σ (σ .status .first) (σ .status .second) (σ .status .third) (with-bit bit (σ .status .fourth))
 
 abbrev pub incomplete : Settings → Settings
 incomplete σ = in-first 3 σ
@@ -54,17 +73,33 @@ bytes-ignored σ = in-fourth 5 σ
 abbrev pub wrong-checksum : Settings → Settings
 wrong-checksum σ = in-fourth 4 σ
 
--- ---- the registers
+-- ---- numbers in bytes, low byte first
 
-pub record Row : Type 0 where
-  pub id : ℕ
-  pub register : Register
-  pub writable : Bool
-  pub count : ℕ
-  pub accepted : List ℕ → Bool
+abbrev pub number-at : ℕ → List ℕ → ℕ
+number-at i d = getD d i 0 + getD d (i + 1) 0 * 256
 
-abbrev pub row : ℕ → Register → Bool → ℕ → (List ℕ → Bool) → Row
-row id register writable count accepted = record { id = id; register = register; writable = writable; count = count; accepted = accepted }
+abbrev pub two-bytes : ℕ → List ℕ
+two-bytes n = n % 256 ∷ n / 256 % 256 ∷ []
+
+-- a bezel offset: an amount and a sign byte, which is 0 for a negative one
+
+unfoldable pub negative : ℕ → ℤ
+negative zero = pos 0
+negative (suc n) = negsuc n
+
+unfoldable pub signed : ℕ → ℕ → ℤ
+signed amount zero = negative amount
+signed amount (suc sign) = pos amount
+
+abbrev pub signed-at : ℕ → List ℕ → ℤ
+signed-at i d = signed (number-at i d) (getD d (i + 2) 0)
+
+-- read back as its amount, then 0 if below zero, else 1
+unfoldable pub signed-bytes : ℤ → List ℕ
+signed-bytes (pos n) = two-bytes n ++ 1 ∷ []
+signed-bytes (negsuc n) = two-bytes (suc n) ++ 0 ∷ []
+
+-- ---- the registers: which data a write accepts, how it stores them, and what a read gives
 
 abbrev pub any : List ℕ → Bool
 any d = true
@@ -75,17 +110,87 @@ up-to most d = leb (getD d 0 0) most
 abbrev pub duty-up-to : ℕ → List ℕ → Bool
 duty-up-to most d = leb (getD d 2 0) most
 
+abbrev pub stores-backlight : Settings → List ℕ → Settings
+stores-backlight σ d = settings-of (number-at 0 d) (σ .switches) (σ .heater) (σ .bezel) (σ .pixels) (σ .status)
+
+abbrev pub stores-master : Settings → List ℕ → Settings
+stores-master σ d = with-switches σ (switches-of (getD d 0 0) (σ .switches .park) (σ .switches .splash) (σ .switches .strength))
+
+abbrev pub stores-park : Settings → List ℕ → Settings
+stores-park σ d = with-switches σ (switches-of (σ .switches .master) (getD d 0 0) (σ .switches .splash) (σ .switches .strength))
+
+abbrev pub stores-splash : Settings → List ℕ → Settings
+stores-splash σ d = with-switches σ (switches-of (σ .switches .master) (σ .switches .park) (getD d 0 0) (σ .switches .strength))
+
+abbrev pub stores-strength : Settings → List ℕ → Settings
+stores-strength σ d = with-switches σ (switches-of (σ .switches .master) (σ .switches .park) (σ .switches .splash) (getD d 0 0))
+
+abbrev pub stores-heater : Settings → List ℕ → Settings
+stores-heater σ d = settings-of (σ .backlight) (σ .switches) (record { khz = number-at 0 d; duty = getD d 2 0 }) (σ .bezel) (σ .pixels) (σ .status)
+
+abbrev pub stores-bezel : Settings → List ℕ → Settings
+stores-bezel σ d =
+    settings-of (σ .backlight) (σ .switches) (σ .heater) (record { horizontal = signed-at 0 d; vertical = signed-at 3 d }) (σ .pixels) (σ .status)
+
+abbrev pub stores-nothing : Settings → List ℕ → Settings
+stores-nothing σ d = σ
+
+abbrev pub stores-pixels : Settings → List ℕ → Settings
+stores-pixels σ d =
+    settings-of (σ .backlight) (σ .switches) (σ .heater) (σ .bezel)
+    (record { x0 = number-at 0 d; y0 = number-at 2 d; x1 = number-at 4 d; y1 = number-at 6 d }) (σ .status)
+
+abbrev pub backlight-bytes : Settings → List ℕ
+backlight-bytes σ = two-bytes (σ .backlight)
+
+abbrev pub master-byte : Settings → List ℕ
+master-byte σ = σ .switches .master ∷ []
+
+-- 2 if parked, else 0
+abbrev pub park-byte : Settings → List ℕ
+park-byte σ = cond (eqb (σ .switches .park) 0) 0 2 ∷ []
+
+abbrev pub splash-byte : Settings → List ℕ
+splash-byte σ = σ .switches .splash ∷ []
+
+abbrev pub strength-byte : Settings → List ℕ
+strength-byte σ = σ .switches .strength ∷ []
+
+abbrev pub heater-bytes : Settings → List ℕ
+heater-bytes σ = two-bytes (σ .heater .khz) ++ σ .heater .duty ∷ []
+
+abbrev pub bezel-bytes : Settings → List ℕ
+bezel-bytes σ = signed-bytes (σ .bezel .horizontal) ++ signed-bytes (σ .bezel .vertical)
+
+abbrev pub status-bytes : Settings → List ℕ
+status-bytes σ = σ .status .first ∷ σ .status .second ∷ σ .status .third ∷ σ .status .fourth ∷ []
+
+abbrev pub pixels-bytes : Settings → List ℕ
+pixels-bytes σ = two-bytes (σ .pixels .x0) ++ two-bytes (σ .pixels .y0) ++ two-bytes (σ .pixels .x1) ++ two-bytes (σ .pixels .y1)
+
+pub record Row : Type 0 where
+  pub id : ℕ
+  pub writable : Bool
+  -- the data of a write, and of a read's reply
+  pub count : ℕ
+  pub accepted : List ℕ → Bool
+  pub stores : Settings → List ℕ → Settings
+  pub reads : Settings → List ℕ
+
+abbrev pub row : ℕ → Bool → ℕ → (List ℕ → Bool) → (Settings → List ℕ → Settings) → (Settings → List ℕ) → Row
+row id writable count accepted stores reads = record { id = id; writable = writable; count = count; accepted = accepted; stores = stores; reads = reads }
+
 unfoldable pub table : List Row
 table =
-    row 0x00 Backlight true 2 any
-    ∷ row 0x01 Master true 1 (up-to 1)
-    ∷ row 0x02 Park true 1 (up-to 1)
-    ∷ row 0x25 Splash true 1 (up-to 1)
-    ∷ row 0x26 Strength true 1 (up-to 2)
-    ∷ row 0x27 Heater true 3 (duty-up-to 100)
-    ∷ row 0x28 Bezel true 6 any
-    ∷ row 0x33 Status false 4 any
-    ∷ row 0x53 Pixels true 8 any
+    row 0x00 true 2 any stores-backlight backlight-bytes
+    ∷ row 0x01 true 1 (up-to 1) stores-master master-byte
+    ∷ row 0x02 true 1 (up-to 1) stores-park park-byte
+    ∷ row 0x25 true 1 (up-to 1) stores-splash splash-byte
+    ∷ row 0x26 true 1 (up-to 2) stores-strength strength-byte
+    ∷ row 0x27 true 3 (duty-up-to 100) stores-heater heater-bytes
+    ∷ row 0x28 true 6 any stores-bezel bezel-bytes
+    ∷ row 0x33 false 4 any stores-nothing status-bytes
+    ∷ row 0x53 true 8 any stores-pixels pixels-bytes
     ∷ []
 
 unfoldable pub find : ℕ → List Row → Option Row
@@ -101,9 +206,17 @@ pub record Outcome : Type 0 where
 abbrev pub outcome : Settings → List ℕ → Outcome
 outcome σ reply = record { settings = σ; reply = reply }
 
+-- the sum of bytes modulo 256
+unfoldable pub sum : List ℕ → ℕ
+sum bytes = foldr _+_ 0 bytes % 256
+
+-- a good read's reply: 01, the data's count, the data, and the sum of all these
+unfoldable pub good-read : List ℕ → List ℕ
+good-read d = (0x01 ∷ length d ∷ d) ++ sum (0x01 ∷ length d ∷ d) ∷ []
+
 -- a status read clears what it gives
 abbrev pub clears : ℕ → Settings → Settings
-clears id σ = cond (eqb id 0x33) (cleared σ) σ
+clears id σ = cond (eqb id 0x33) (with-status σ 0 0 0 0) σ
 
 -- a command byte is a write of its register or, where it is odd, a read
 unfoldable pub command : Settings → Row → Bool → List ℕ → Outcome
@@ -112,11 +225,11 @@ command σ r false d =
     (cond (eqb (σ .switches .master) 0 && not (eqb (r .id) 0x01)) (outcome (not-available σ) (0x04 ∷ []))
     (cond (not (eqb (length d) (r .count))) (outcome (wrong-length σ) (0x05 ∷ []))
     (cond (not (r .accepted d)) (outcome (out-of-range σ) (0x07 ∷ []))
-    (outcome (written σ (r .register) d) (0x01 ∷ [])))))
+    (outcome (r .stores σ d) (0x01 ∷ [])))))
 command σ r true d =
     cond (eqb (σ .switches .master) 0 && not (eqb (r .id) 0x01)) (outcome (not-available σ) (0x04 ∷ []))
     (cond (not (eqb (length d) 0)) (outcome (wrong-length σ) (0x05 ∷ []))
-    (outcome (clears (r .id) σ) (success (read σ (r .register)))))
+    (outcome (clears (r .id) σ) (good-read (r .reads σ))))
 
 abbrev pub command-found : Option Row → Settings → Bool → List ℕ → Outcome
 command-found none σ is-read d = outcome (invalid-command σ) (0x03 ∷ [])
@@ -125,7 +238,7 @@ command-found (some r) σ is-read d = command σ r is-read d
 -- the packet k, n, d, s: command byte, length, data and checksum
 unfoldable pub checked : Settings → ℕ → ℕ → List ℕ → ℕ → Outcome
 checked σ k n d s =
-    cond (not (eqb s (checksum (k ∷ n ∷ d)))) (outcome (wrong-checksum σ) (0x02 ∷ []))
+    cond (not (eqb s (sum (k ∷ n ∷ d)))) (outcome (wrong-checksum σ) (0x02 ∷ []))
     (command-found (find (k / 2) table) σ (eqb (k % 2) 1) d)
 
 -- ---- the exchange

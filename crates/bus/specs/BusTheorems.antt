@@ -1,20 +1,22 @@
 -- What is proved of the exchange. The table of the marked examples has its two statements in Examples.antt.
 use Prim.Native.Nat.{ℕ, _≤_, _<_}
 use mathlib.Core.Path.{_≡_}
-use mathlib.Core.Bool.{false, cond}
-use mathlib.Core.List.{List, _++_}
+use mathlib.Core.Bool.{true, false, cond}
+use mathlib.Core.List.{List, [], _∷_, _++_, List·Memᴰ}
 use lib.ListN.{length, take, replicate}
 use lib.Dec.{eqb}
 use Rattle.base.specs.Bytes.{Bytes}
 use Rattle.packet.specs.Packet.{command-byte, packet-of, packet}
 use Rattle.packet.specs.declared.writer.Access.{Access}
 use Rattle.settings.specs.declared.settings.Settings.{Settings}
-use Rattle.settings.specs.declared.settings.Flag.{Flag}
+use Rattle.settings.specs.declared.settings.StatusBytes.{StatusBytes}
+use Rattle.settings.specs.declared.settings.Flag.the-variants.{Incomplete, EscapeSeen, BytesIgnored, WrongChecksum}
+use Rattle.settings.specs.Theorems.{bit}
 use Rattle.settings.specs.Settings.{flagged, cleared}
 use Rattle.bus.specs.Commands.{perform}
 use Rattle.bus.specs.declared.Phase.the-variants.{Idle, Checksum}
 use Rattle.bus.specs.declared.Controller.{Controller}
-use Rattle.bus.specs.Bus.{waiting, fresh, performed, exchange, opening, noted}
+use Rattle.bus.specs.Bus.{is-idle, waiting, fresh, performed, exchange, opening, noted}
 use Rattle.bus.specs.Run.{run, outs, Ready}
 use Rattle.bus.specs.AsWritten.{begin, steps, sent}
 
@@ -71,12 +73,46 @@ Replies =
 abbrev pub value : Controller → ℕ → ℕ
 value c b = cond (c .escape) (cond (eqb b 0x00) 0xA5 b) b
 
--- what an exchange may do to the settings
-pub data Effect (c : Controller) (b : ℕ) (end : Settings) : Type 0 where
-  unchanged : end ≡ c .settings → Effect c b end
-  flag-set : (flag : Flag) → end ≡ flagged (c .settings) flag → Effect c b end
-  packet-performed : c .phase ≡ Checksum → value c b ≡ c .packet .sum → end ≡ performed (c .packet) (c .settings) .settings → Effect c b end
+-- the byte is looked at: it is no start, and no reply byte was unsent
+pub record Taken (c : Controller) (b : ℕ) : Type 0 where
+  pub no-start : b ≡ 0xA5 → ⊥
+  pub all-sent : c .reply .len ≤ c .reply .sent
 
--- settings stay, or get one named status bit, or are what the completed packet makes of them
+-- a byte of the open packet that opens no escape
+pub record OfPacket (c : Controller) (b : ℕ) : Type 0 where
+  pub taken : Taken c b
+  pub inside : is-idle (c .phase) ≡ false
+  pub no-escape : c .escape ≡ false → b ≡ 0x5A → ⊥
+
+-- what an exchange does to the settings, each status bit where its own check says so
+pub data Effect (c : Controller) (b : ℕ) : Settings → Type 0 where
+  starts-packet : b ≡ 0xA5 → is-idle (c .phase) ≡ true → Effect c b (c .settings)
+  cuts-packet : b ≡ 0xA5 → is-idle (c .phase) ≡ false → Effect c b (flagged (c .settings) Incomplete)
+  dummy : (b ≡ 0xA5 → ⊥) → c .reply .sent < c .reply .len → Effect c b (c .settings)
+  zero-outside : Taken c b → is-idle (c .phase) ≡ true → b ≡ 0x00 → Effect c b (c .settings)
+  ignored : Taken c b → is-idle (c .phase) ≡ true → (b ≡ 0x00 → ⊥) → Effect c b (flagged (c .settings) BytesIgnored)
+  opens-escape : Taken c b → is-idle (c .phase) ≡ false → c .escape ≡ false → b ≡ 0x5A → Effect c b (flagged (c .settings) EscapeSeen)
+  collected : OfPacket c b → (c .phase ≡ Checksum → ⊥) → Effect c b (c .settings)
+  wrong-checksum : OfPacket c b → c .phase ≡ Checksum → (value c b ≡ c .packet .sum → ⊥) → Effect c b (flagged (c .settings) WrongChecksum)
+  packet-performed : OfPacket c b → c .phase ≡ Checksum → value c b ≡ c .packet .sum → Effect c b (performed (c .packet) (c .settings) .settings)
+
+-- every exchange comes to one of these
 abbrev pub EffectOnly : Type 0
 EffectOnly = (c : Controller) (b : ℕ) → Effect c b (exchange c b .controller .settings)
+
+-- ---- the status bits
+
+-- of this byte's bits only those with these numbers may be 1
+abbrev pub Only : List ℕ → ℕ → Type 0
+Only bits b = (j : ℕ) → j < 8 → (List·Memᴰ j bits → ⊥) → bit j b ≡ 0
+
+-- the bits that document 01 names
+pub record OnlyNamed (s : StatusBytes) : Type 0 where
+  pub first : Only (3 ∷ 2 ∷ 0 ∷ []) (s .first)
+  pub second : Only (5 ∷ []) (s .second)
+  pub third : Only [] (s .third)
+  pub fourth : Only (7 ∷ 6 ∷ 5 ∷ 4 ∷ []) (s .fourth)
+
+-- the rest stay 0, whatever bytes come
+abbrev pub RestStayZero : Type 0
+RestStayZero = (bs : List ℕ) → OnlyNamed (run fresh bs .settings .status)

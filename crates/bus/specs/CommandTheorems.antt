@@ -7,35 +7,42 @@ use mathlib.Core.Option.{Option, none, some}
 use lib.ListN.{length}
 use lib.Dec.{eqb}
 use Rattle.base.specs.Bytes.{Bytes}
+use Rattle.packet.specs.declared.writer.Access.{Access}
 use Rattle.packet.specs.declared.writer.Access.the-variants.{Write, Read}
 use Rattle.settings.specs.declared.settings.Settings.{Settings}
-use Rattle.settings.specs.declared.settings.Flag.{Flag}
-use Rattle.settings.specs.Settings.{flagged}
+use Rattle.settings.specs.declared.settings.Flag.the-variants.{NotAvailable, InvalidCommand, OutOfRange, WrongLength}
 use Rattle.settings.specs.Range.{StatusHeld, Held}
 use Rattle.bus.specs.declared.command.Register.{Register}
 use Rattle.bus.specs.declared.command.Lookup.{Lookup}
 use Rattle.bus.specs.declared.command.Lookup.the-variants.{Found, Unknown}
-use Rattle.bus.specs.Commands.{lookup, access, offers, data-count, request-length, accepts, written, reply-of, after-read, locked, perform}
+use Rattle.bus.specs.declared.command.Performed.{Performed}
+use Rattle.bus.specs.Commands.{lookup, access, offers, request-length, accepts, read, written, reply-of, failed, read-register, locked, perform}
 use Rattle.bus.specs.AsWritten.{Row, table, find, command-found}
 
 -- ---- the registers as the paper's table has them
 
--- a row says of its register what Commands.antt says of it: its ways, its two lengths and its range
-pub record Described (r : Row) : Type 0 where
-  pub writes : offers (r .id) Write ≡ r .writable
-  pub reads : offers (r .id) Read ≡ true
-  pub write-length : request-length (r .register) Write ≡ r .count
-  pub read-length : request-length (r .register) Read ≡ 0
-  pub limited : (d : List ℕ) → accepts (r .register) d ≡ r .accepted d
+-- a row of the paper's table says of a register what Commands.antt says of it: its ways, its two lengths, its range, what it stores and what it reads as
+pub record Described (row : Row) (r : Register) : Type 0 where
+  pub writes : offers (row .id) Write ≡ row .writable
+  pub reads : offers (row .id) Read ≡ true
+  pub write-length : request-length r Write ≡ row .count
+  pub read-length : request-length r Read ≡ 0
+  pub limited : (d : List ℕ) → accepts r d ≡ row .accepted d
+  pub stored : (σ : Settings) (d : List ℕ) → written σ r d ≡ row .stores σ d
+  pub read-as : (σ : Settings) → read σ r ≡ row .reads σ
 
 -- no register, or that of a row with this ID
 pub data Alike (id : ℕ) : Option Row → Lookup → Type 0 where
   unknown : Alike id none Unknown
-  known : (r : Row) → r .id ≡ id → Described r → Alike id (some r) (Found (r .register))
+  known : (row : Row) (r : Register) → row .id ≡ id → Described row r → Alike id (some row) (Found r)
 
--- at every ID both definitions know no register, or the same one with the same ways, lengths and range
+-- at every ID both definitions know no register, or the same one
 abbrev pub TableAlike : Type 0
 TableAlike = (id : ℕ) → Alike id (find id table) (lookup id)
+
+-- a read gives as many bytes as its row says
+abbrev pub ReadCounted : Type 0
+ReadCounted = (id : ℕ) (row : Row) → find id table ≡ some row → (σ : Settings) → length (row .reads σ) ≡ row .count
 
 -- the status bytes are bytes
 abbrev pub StatusFits : Settings → Type 0
@@ -48,25 +55,48 @@ PerformedAlike =
     (command-found (find (k / 2) table) σ (eqb (k % 2) 1) d .settings ≡ perform σ k d .settings)
     × (reply-of (command-found (find (k / 2) table) σ (eqb (k % 2) 1) d .reply) ≡ perform σ k d .reply)
 
--- ---- when a command changes the settings
+-- ---- when a command takes effect
 
--- what becomes of the settings σ by the command k with data d
-pub data CommandEffect (σ : Settings) (k : ℕ) (d : List ℕ) (end : Settings) : Type 0 where
-  failed : (flag : Flag) → end ≡ flagged σ flag → CommandEffect σ k d end
-  was-read : (r : Register) → lookup (k / 2) ≡ Found r → access k ≡ Read → end ≡ after-read σ (k / 2) → CommandEffect σ k d end
-  was-written : (r : Register) → lookup (k / 2) ≡ Found r → access k ≡ Write → locked σ (k / 2) ≡ false → length d ≡ data-count r → accepts r d ≡ true →
-      end ≡ written σ r d → CommandEffect σ k d end
+-- the ID of the command byte k is known, and it asks for this way of access
+pub record Known (k : ℕ) (r : Register) (way : Access) : Type 0 where
+  pub found : lookup (k / 2) ≡ Found r
+  pub asked : access k ≡ way
 
--- a performed packet fails with a status bit, reads, or writes a register for which every check is passed
+-- the way is offered, and master does not lock the register: 01's checks 2 and 3 are passed
+pub record Available (σ : Settings) (k : ℕ) (r : Register) (way : Access) : Type 0 where
+  pub known : Known k r way
+  pub offered : offers (k / 2) way ≡ true
+  pub unlocked : locked σ (k / 2) ≡ false
+
+-- so is check 4: the length is right, which for a read is 0
+pub record Requested (σ : Settings) (k : ℕ) (d : List ℕ) (r : Register) (way : Access) : Type 0 where
+  pub available : Available σ k r way
+  pub whole : length d ≡ request-length r way
+
+abbrev pub write-performed : Settings → Register → List ℕ → Performed
+write-performed σ r d = record { settings = written σ r d; reply = reply-of (0x01 ∷ []) }
+
+-- what becomes of the command byte k with data d: each failure where its own check is the first that is not passed,
+-- and an effect where every check is passed
+pub data CommandEffect (σ : Settings) (k : ℕ) (d : List ℕ) : Performed → Type 0 where
+  unknown-id : lookup (k / 2) ≡ Unknown → CommandEffect σ k d (failed σ InvalidCommand 0x03)
+  no-such-way : {r : Register} {way : Access} → Known k r way → offers (k / 2) way ≡ false → CommandEffect σ k d (failed σ InvalidCommand 0x03)
+  not-available : {r : Register} {way : Access} → Known k r way → offers (k / 2) way ≡ true → locked σ (k / 2) ≡ true → CommandEffect σ k d (failed σ NotAvailable 0x04)
+  wrong-length : {r : Register} {way : Access} → Available σ k r way → (length d ≡ request-length r way → ⊥) → CommandEffect σ k d (failed σ WrongLength 0x05)
+  out-of-range : {r : Register} → Requested σ k d r Write → accepts r d ≡ false → CommandEffect σ k d (failed σ OutOfRange 0x07)
+  was-written : {r : Register} → Requested σ k d r Write → accepts r d ≡ true → CommandEffect σ k d (write-performed σ r d)
+  was-read : {r : Register} → Requested σ k d r Read → CommandEffect σ k d (read-register σ (k / 2) r)
+
+-- every command comes to one of these
 abbrev pub PerformOutcome : Type 0
-PerformOutcome = (σ : Settings) (k : ℕ) (d : List ℕ) → CommandEffect σ k d (perform σ k d .settings)
+PerformOutcome = (σ : Settings) (k : ℕ) (d : List ℕ) → CommandEffect σ k d (perform σ k d)
 
--- and a write that passes every check takes effect
+-- and one that passes every check takes effect
 abbrev pub PerformWrites : Type 0
-PerformWrites =
-    (σ : Settings) (k : ℕ) (d : List ℕ) (r : Register) →
-    lookup (k / 2) ≡ Found r → access k ≡ Write → offers (k / 2) Write ≡ true → locked σ (k / 2) ≡ false → length d ≡ data-count r → accepts r d ≡ true →
-    perform σ k d ≡ record { settings = written σ r d; reply = reply-of (0x01 ∷ []) }
+PerformWrites = (σ : Settings) (k : ℕ) (d : List ℕ) (r : Register) → Requested σ k d r Write → accepts r d ≡ true → perform σ k d ≡ write-performed σ r d
+
+abbrev pub PerformReads : Type 0
+PerformReads = (σ : Settings) (k : ℕ) (d : List ℕ) (r : Register) → Requested σ k d r Read → perform σ k d ≡ read-register σ (k / 2) r
 
 -- settings that a controller could hold stay such, whatever command is performed
 abbrev pub PerformHeld : Type 0
