@@ -145,7 +145,7 @@ pub record Same (o : Outcome) (p : Performed) : Type 0 where
   pub replied : reply-of (o .reply) ≡ p .reply
   pub fitting : StatusFits (o .settings)
 
-no-flags-fit : StatusHeld no-flags
+pub no-flags-fit : StatusHeld no-flags
 no-flags-fit = omega arith
 
 -- a write changes no status bit

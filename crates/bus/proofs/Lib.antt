@@ -3,6 +3,7 @@ pub mod CommandTable
 pub mod Effect
 pub mod Examples
 pub mod Keeps
+pub mod NamedBits
 pub mod NothingBefore
 pub mod ReadsBack
 pub mod RunLaws
