@@ -4,7 +4,7 @@ use native.Mathlib.Nat.{add-zero}
 use native.Mathlib.Numerals.{add-one}
 use native.Mathlib.Omega.{arith}
 use mathlib.Core.Path.{_≡_, refl, sym, ap, _∙_}
-use mathlib.Core.Bool.{Bool, true, false, cond}
+use mathlib.Core.Bool.{Bool, true, false, cond, false≢true}
 use mathlib.Core.List.{List, [], _∷_, _++_}
 use mathlib.Core.Option.{Option, none, some}
 use lib.ListN.{length, getD, take, drop, set, replicate, length-append, length-take, length-drop, length-set}
@@ -15,6 +15,7 @@ use Rattle.packet.specs.Packet.{total, checksum}
 use Rattle.packet.proofs.PacketLaws.{checksum-snoc}
 use Rattle.base.proofs.Lists.{drop-more}
 use Rattle.settings.specs.declared.settings.Settings.{Settings}
+use Rattle.settings.specs.Settings.{fresh as settings-fresh}
 use Rattle.settings.specs.declared.settings.Flag.the-variants.{Incomplete, EscapeSeen, BytesIgnored, WrongChecksum}
 use Rattle.bus.specs.declared.Outgoing.{Outgoing}
 use Rattle.bus.specs.declared.command.Performed.{Performed}
@@ -25,7 +26,9 @@ use Rattle.bus.specs.declared.Controller.{Controller}
 use Rattle.bus.specs.Commands.{reply-limit, reply-of}
 use Rattle.bus.specs.Bus.{
   is-idle,
+  none as collected-none,
   waiting,
+  nothing-unsent,
   after-length,
   after-data,
   controller-of,
@@ -46,6 +49,7 @@ use Rattle.bus.specs.AsWritten.{
   checked,
   State,
   state,
+  idle,
   begin,
   whole,
   closed,
@@ -272,14 +276,39 @@ exchange-alike (matches {σ} {packet} {escape} {us} {phase} {p} {r} fits held u)
 same-settings : {s : State} {c : Controller} → Matches s c → s .settings ≡ c .settings
 same-settings (matches fits held u) = refl
 
--- matched controllers answer alike from there on
-agree-from : (bs : List ℕ) → Bytes bs → (s : State) (c : Controller) → Matches s c → (sent s bs ≡ outs c bs) × (steps s bs .settings ≡ run c bs .settings)
-unfolding sent outs steps run
-agree-from [] t s c m = (refl, same-settings m)
-agree-from (b ∷ bs) t s c m =
+-- matched controllers stay matched over any bytes
+stay-matched : (bs : List ℕ) → Bytes bs → (s : State) (c : Controller) → Matches s c → Matches (steps s bs) (run c bs)
+unfolding steps run
+stay-matched [] t s c m = m
+stay-matched (b ∷ bs) t s c m = stay-matched bs (λ i. t (suc i)) (step s b) (after c b) (exchange-alike m b (t 0) .1)
+
+-- and answer alike
+sent-alike : (bs : List ℕ) → Bytes bs → (s : State) (c : Controller) → Matches s c → sent s bs ≡ outs c bs
+unfolding sent outs
+sent-alike [] t s c m = refl
+sent-alike (b ∷ bs) t s c m =
     let now = exchange-alike m b (t 0) in
-    let later = agree-from bs (λ i. t (suc i)) (step s b) (after c b) (now .1) in
-    (cc, later .1)
+    let later = sent-alike bs (λ i. t (suc i)) (step s b) (after c b) (now .1) in
+    cc
+
+-- idle with these settings and no reply waiting, by the code's definition
+abbrev pub ready-with : Settings → Controller
+ready-with σ = controller-of Idle false collected-none nothing-unsent σ
+
+idle-matches : (σ : Settings) → StatusFits σ → Matches (idle σ) (ready-with σ)
+idle-matches σ fits = matches fits (no-packet refl) (all-unsent [])
 
 pub agrees : Agrees
-agrees bs t = agree-from bs t begin fresh (matches (omega arith) (no-packet refl) (all-unsent []))
+agrees bs t =
+    let first = idle-matches settings-fresh (omega arith) in
+    (sent-alike bs t begin fresh first, same-settings (stay-matched bs t begin fresh first))
+
+-- a controller that is idle stands for an idle state
+idle-matched : {s : State} {c : Controller} → Matches s c → c .phase ≡ Idle → c .escape ≡ false → s ≡ state (c .settings) none false (s .unsent)
+idle-matched (matches {σ} {us = us} _ (no-packet _) _) _ shut = λ i. state σ none (shut i) us
+idle-matched (matches _ (open-packet o _) _) at _ = absurd (false≢true (sym (not-idle o) ∙ ap is-idle at))
+
+-- so where the code's controller is idle after some bytes, the one as written is, with the same settings
+pub idle-after : (σ : Settings) → StatusFits σ → (bs : List ℕ) → Bytes bs → run (ready-with σ) bs .phase ≡ Idle → run (ready-with σ) bs .escape ≡ false →
+    steps (idle σ) bs ≡ state (run (ready-with σ) bs .settings) none false (steps (idle σ) bs .unsent)
+idle-after σ fits bs t = idle-matched (stay-matched bs t (idle σ) (ready-with σ) (idle-matches σ fits))

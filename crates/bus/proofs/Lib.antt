@@ -8,4 +8,5 @@ pub mod NothingBefore
 pub mod ReadsBack
 pub mod RunLaws
 pub mod Settles
+pub mod SettlesAsWritten
 pub mod StatusBits

@@ -252,8 +252,12 @@ pub record State : Type 0 where
 abbrev pub state : Settings → Option (List ℕ) → Bool → List ℕ → State
 state σ packet escape unsent = record { settings = σ; packet = packet; escape = escape; unsent = unsent }
 
+-- idle, with no reply waiting
+abbrev pub idle : Settings → State
+idle σ = state σ none false []
+
 abbrev pub begin : State
-begin = state fresh none false []
+begin = idle fresh
 
 -- the bytes of a packet once they are all there: command byte, length n, n data bytes and checksum
 unfoldable pub whole : List ℕ → Bool

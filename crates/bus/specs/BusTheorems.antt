@@ -18,7 +18,8 @@ use Rattle.bus.specs.declared.Phase.the-variants.{Idle, Checksum}
 use Rattle.bus.specs.declared.Controller.{Controller}
 use Rattle.bus.specs.Bus.{is-idle, waiting, fresh, performed, exchange, opening, noted}
 use Rattle.bus.specs.Run.{run, outs, Ready}
-use Rattle.bus.specs.AsWritten.{begin, steps, sent}
+use Rattle.bus.specs.AsWritten.{idle, begin, steps, sent}
+use Rattle.bus.specs.CommandTheorems.{StatusFits}
 
 -- both definitions of the controller answer every list of bytes alike, and hold the same settings after it
 abbrev pub Agrees : Type 0
@@ -58,6 +59,13 @@ Settles =
     let p = packet id access d in
     let done = perform (noted (c .settings) p) (command-byte id access) d in
     done .reply .len ≤ n → Ready (run c (p ++ replicate n 0x00)) × (run c (p ++ replicate n 0x00) .settings ≡ done .settings)
+
+-- the same of the controller as written: idle, given the packet and 0x00 until the reply is out, it is idle again
+abbrev pub SettlesAsWritten : Type 0
+SettlesAsWritten =
+    (σ : Settings) (k : ℕ) (d : List ℕ) → StatusFits σ → k < 256 → Bytes d → length d ≤ 255 →
+    let after = steps (idle σ) (packet-of k d) in
+    steps after (replicate (length (after .unsent)) 0x00) ≡ idle (perform (noted σ (packet-of k d)) k d .settings)
 
 -- as many zeros as the reply is long bring it out
 abbrev pub Replies : Type 0

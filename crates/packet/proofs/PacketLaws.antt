@@ -1,12 +1,16 @@
 -- Theorems on the packet's definition.
 use mathlib.Core.Path.{_≡_, refl, sym}
 use mathlib.Core.List.{List, [], _∷_, _++_, append-assoc, append-nil}
-use Prim.Native.Nat.{ℕ, _+_, _%_}
+use Prim.Native.Nat.{ℕ, suc, _+_, _%_, _<_, _≤_}
 use native.Mathlib.Nat.{zero-add, add-zero, add-assoc, mod-add-mod}
 use native.Mathlib.Omega.{arith}
 use lib.ListN.{length, length-append}
+use lib.Dec.{eqb}
 use borrow.Author.Tests.{eq-eqb, ne-eqb}
-use Rattle.packet.specs.Packet.{total, checksum, escape-byte, escape, fields}
+use Rattle.base.specs.Bytes.{Bytes}
+use Rattle.base.proofs.ByteLaws.{bytes-cons, bytes-each, bytes-append}
+use Rattle.base.proofs.Tests.{cond-cases}
+use Rattle.packet.specs.Packet.{data-most, total, checksum, escape-byte, escape, fields, packet-of}
 
 -- the checksum and the escapes, over a list that grows at its end
 
@@ -47,3 +51,26 @@ fields-length k n d s = simp length-append (omega arith)
 pub fields-escape : (k n : ℕ) (d : List ℕ) (s : ℕ) → fields k n d s ≡ 0xA5 ∷ escape (k ∷ n ∷ d ++ s ∷ [])
 unfolding fields escape
 fields-escape k n d s = rw (escape-append d (s ∷ [])) (simp (append-assoc, append-nil))
+
+-- ---- a packet is bytes
+
+escape-byte-bytes : (b : ℕ) → b < 256 → Bytes (escape-byte b)
+unfolding escape-byte
+escape-byte-bytes b h =
+    cond-cases Bytes (eqb b 0xA5) _ _ (λ _. bytes-each (0x5A ∷ 0x00 ∷ []) (omega arith))
+    (λ _. cond-cases Bytes (eqb b 0x5A) _ _ (λ _. bytes-each (0x5A ∷ 0x5A ∷ []) (omega arith)) (λ _. bytes-each (b ∷ []) (omega arith)))
+
+escape-bytes : (bs : List ℕ) → Bytes bs → Bytes (escape bs)
+unfolding escape
+escape-bytes [] h = h
+escape-bytes (b ∷ bs) h = bytes-append (escape-byte b) (escape bs) (escape-byte-bytes b (h 0)) (escape-bytes bs (λ i. h (suc i)))
+
+pub packet-bytes : (k : ℕ) (d : List ℕ) → k < 256 → Bytes d → length d ≤ data-most → Bytes (packet-of k d)
+unfolding packet-of checksum
+packet-bytes k d hk hd short =
+    let n = length d in
+    let sum = checksum (k ∷ n ∷ d) in
+    let behind = d ++ sum ∷ [] in
+    let behind-bytes = bytes-append d (sum ∷ []) hd (bytes-each (sum ∷ []) (omega arith)) in
+    let all-bytes = bytes-cons k (n ∷ behind) hk (bytes-cons n behind (omega arith) behind-bytes) in
+    rw (fields-escape k n d sum) (bytes-cons 0xA5 (escape (k ∷ n ∷ behind)) (omega arith) (escape-bytes (k ∷ n ∷ behind) all-bytes))
