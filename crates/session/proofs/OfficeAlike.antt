@@ -23,11 +23,11 @@ use Rattle.session.specs.declared.Order.{Order}
 use Rattle.session.specs.declared.Stage.{Stage as OfficeStage}
 use Rattle.session.specs.declared.Stage.the-variants.{Unopened, Awaiting, Live, Ended}
 use Rattle.session.proofs.Alike.{Alike, answered-alike, cond-both, cond-and}
-use Rattle.session.specs.History.{Stage, unopened, awaiting, live, ended, is-awaiting, is-live, BoxHistory, History, first-history, updated, orders, with-office, with-opening, with-issued}
+use Rattle.session.specs.History.{Stage, unopened, awaiting, live, ended, is-awaiting, is-live, BoxHistory, History, first-history, updated, orders, with-office, with-opening, with-welcome, with-issued}
 use Rattle.session.specs.History.{rule-opening, rule-issue, sent-again, rule-resend, rule-reopen, rule-welcome, rule-ack, rule-refuse, rule-office-frame, progress-at, progress}
 use Rattle.session.specs.Office as office
 use Rattle.session.specs.Office.{order-of, no-order, empty-window, office-of, never, with-order, issue-unless, kept-change, received}
-use Rattle.session.proofs.Tools.{impossible, updated-same, length-one-more, getElem?-below, getElem?-append, getElem?-last}
+use Rattle.session.proofs.Tools.{updated-same, length-one-more, getElem?-below, getElem?-append, getElem?-last}
 use Rattle.session.specs.Turn.{window-limit, order-limit, Turn, wrote, refused}
 
 -- ---- the window
@@ -86,23 +86,19 @@ office-with h window =
     let o = h .office in
     office-of (stage-of (o .stage)) (o .session) (o .settings) (length (orders h)) (o .confirmed) window
 
--- while awaiting WELCOME, no order is issued
-abbrev pub NoneYet : Stage → List Change → ℕ → Type 0
-NoneYet g l confirmed = is-awaiting g ≡ true → (length l ≡ 0) × (confirmed ≡ 0)
-
 -- the box's part is named, since no call at the office changes it
 pub data OfficeAlike : BoxHistory → Office → History → Type 0 where
-  backed : {h : History} {window : List Order} → Backed window (orders h) (h .office .confirmed) → NoneYet (h .office .stage) (orders h) (h .office .confirmed) →
+  backed : {h : History} {window : List Order} → Backed window (orders h) (h .office .confirmed) →
       OfficeAlike (h .box) (office-with h window) h
 
 abbrev pub TurnAlike : BoxHistory → Turn Office → Turn History → Type 0
 TurnAlike box t u = Alike (OfficeAlike box) t u
 
-none-held : {l : List Change} → length l ≡ 0 → Backed empty-window l 0
-none-held count = record { sized = refl; holds = λ n above within. absurd (omega (arith, count)) }
+none-held : {window : List Order} {l : List Change} → length window ≡ window-limit → length l ≡ 0 → Backed window l 0
+none-held sized count = record { sized = sized; holds = λ n above within. absurd (omega (arith, count)) }
 
 pub first-alike : OfficeAlike (first-history .box) never first-history
-first-alike = backed {h = first-history} {window = empty-window} (none-held refl) (λ _. (refl, refl))
+first-alike = backed {h = first-history} {window = empty-window} (none-held refl refl)
 
 -- ---- opening
 
@@ -110,13 +106,13 @@ begun : (h : History) (s : ℕ) → OfficeAlike (h .box) (office-of Awaiting s f
 begun h s =
     let count : length (updated (h .issued) s [] s) ≡ 0 = ap length (updated-same (h .issued) s []) in
     subst (λ (n : ℕ). OfficeAlike (h .box) (office-of Awaiting s fresh n 0 empty-window) (with-opening h s)) count
-    (backed (none-held count) (λ _. (count, refl)))
+    (backed (none-held refl count))
 
 pub opening-alike : {box : BoxHistory} {x : Office} {h : History} → OfficeAlike box x h → (s room : ℕ) → TurnAlike box (office.open-session x s room) (rule-opening h s room)
 unfolding office.open-session rule-opening
-opening-alike (backed {h} b y) s room =
-    cond-both (TurnAlike (h .box)) (eqb s 0) (λ _. answered-alike (backed b y))
-    (λ _. cond-both (TurnAlike (h .box)) (ltb room frame-limit) (λ _. answered-alike (backed b y))
+opening-alike (backed {h} b) s room =
+    cond-both (TurnAlike (h .box)) (eqb s 0) (λ _. answered-alike (backed b))
+    (λ _. cond-both (TurnAlike (h .box)) (ltb room frame-limit) (λ _. answered-alike (backed b))
     (λ _. answered-alike (begun h s)))
 
 -- ---- issuing
@@ -133,19 +129,19 @@ issued-alike h window c b room =
     (backed (record {
       sized = length-set window (length l % window-limit) (order-of (length l + 1) c) ∙ b .sized;
       holds = rw here (holds-more l c window (o .confirmed) (b .sized) (b .holds) room);
-    }) impossible)
+    }))
 
 pub issue-alike : {box : BoxHistory} {x : Office} {h : History} → OfficeAlike box x h → (c : Change) (room : ℕ) → TurnAlike box (office.issue x c room) (rule-issue h c room)
 unfolding office.issue office.issue-refusal rule-issue
-issue-alike (backed {h} {window} b y) c room =
+issue-alike (backed {h} {window} b) c room =
     let Both : Option ℕ → Turn History → Type 0 = λ refusal u. TurnAlike (h .box) (issue-unless refusal (office-with h window) c) u in
     rw (live-of (h .office .stage)) (cond-both Both (is-live (h .office .stage))
-    (λ _. cond-both Both (ltb room frame-limit) (λ _. answered-alike (backed b y))
-    (λ _. cond-both Both (too-long c) (λ _. answered-alike (backed b y))
-    (λ _. cond-both Both (eqb (length (orders h)) order-limit) (λ _. answered-alike (backed b y))
-    (λ _. cond-both Both (leb window-limit (length (orders h) - h .office .confirmed)) (λ _. answered-alike (backed b y))
+    (λ _. cond-both Both (ltb room frame-limit) (λ _. answered-alike (backed b))
+    (λ _. cond-both Both (too-long c) (λ _. answered-alike (backed b))
+    (λ _. cond-both Both (eqb (length (orders h)) order-limit) (λ _. answered-alike (backed b))
+    (λ _. cond-both Both (leb window-limit (length (orders h) - h .office .confirmed)) (λ _. answered-alike (backed b))
     (λ few. answered-alike (issued-alike h window c b (omega (arith, leb-false window-limit (length (orders h) - h .office .confirmed) few))))))))
-    (λ _. answered-alike (backed b y)))
+    (λ _. answered-alike (backed b)))
 
 -- ---- sending again
 
@@ -172,62 +168,62 @@ sent-again-alike h window (some c) n room a holds above e =
 
 pub resend-alike : {box : BoxHistory} {x : Office} {h : History} → OfficeAlike box x h → (n room : ℕ) → TurnAlike box (office.resend x n room) (rule-resend h n room)
 unfolding office.resend rule-resend sent-again
-resend-alike (backed {h} {window} b y) n room =
+resend-alike (backed {h} {window} b) n room =
     rw (live-of (h .office .stage)) (cond-both (TurnAlike (h .box)) (is-live (h .office .stage))
     (λ _. cond-both (λ (t : Turn Office) (m : Option Change). TurnAlike (h .box) t (sent-again m h n room)) (ltb (h .office .confirmed) n)
-    (λ above. sent-again-alike h window (getElem? (orders h) (n - 1)) n room (backed b y) (b .holds) (ltb-true _ n above) refl)
-    (λ _. answered-alike (backed b y)))
-    (λ _. answered-alike (backed b y)))
+    (λ above. sent-again-alike h window (getElem? (orders h) (n - 1)) n room (backed b) (b .holds) (ltb-true _ n above) refl)
+    (λ _. answered-alike (backed b)))
+    (λ _. answered-alike (backed b)))
 
 pub reopen-alike : {box : BoxHistory} {x : Office} {h : History} → OfficeAlike box x h → (room : ℕ) → TurnAlike box (office.reopen x room) (rule-reopen h room)
 unfolding office.reopen rule-reopen
-reopen-alike (backed {h} b y) room =
+reopen-alike (backed {h} b) room =
     rw (awaiting-of (h .office .stage)) (cond-both (TurnAlike (h .box)) (is-awaiting (h .office .stage))
-    (λ _. cond-both (TurnAlike (h .box)) (ltb room frame-limit) (λ _. answered-alike (backed b y)) (λ _. answered-alike (backed b y)))
-    (λ _. answered-alike (backed b y)))
+    (λ _. cond-both (TurnAlike (h .box)) (ltb room frame-limit) (λ _. answered-alike (backed b)) (λ _. answered-alike (backed b)))
+    (λ _. answered-alike (backed b)))
 
 -- ---- frames in
 
 welcome-alike : {box : BoxHistory} {x : Office} {h : History} → OfficeAlike box x h → (s : ℕ) (σ : Settings) → OfficeAlike box (office.welcomed x s σ) (rule-welcome h s σ)
 unfolding office.welcomed rule-welcome
-welcome-alike (backed {h} {window} b y) s σ =
+welcome-alike (backed {h} {window} b) s σ =
     rw (awaiting-of (h .office .stage), cond-and) (cond-both (OfficeAlike (h .box)) (is-awaiting (h .office .stage))
-    (λ waits. cond-both (OfficeAlike (h .box)) (eqb s (h .office .session)) (λ own. opened (y waits) (eqb-true _ _ own)) (λ _. backed b y))
-    (λ _. backed b y))
+    (λ _. cond-both (OfficeAlike (h .box)) (eqb s (h .office .session)) (λ own. opened (eqb-true _ _ own)) (λ _. backed b))
+    (λ _. backed b))
   where
-    opened : (length (orders h) ≡ 0) × (h .office .confirmed ≡ 0) → s ≡ h .office .session →
-        OfficeAlike (h .box) (office-of Live s σ 0 0 window) (with-office h live σ (h .office .confirmed))
-    opened (no-order-yet, none-confirmed) own =
-        subst (λ (x : Office). OfficeAlike (h .box) x (with-office h live σ (h .office .confirmed)))
-        (λ i. office-of Live (sym own i) σ (no-order-yet i) (none-confirmed i) window) (backed b impossible)
+    opened : s ≡ h .office .session → OfficeAlike (h .box) (office-of Live s σ 0 0 window) (with-welcome h σ)
+    opened own =
+        let count : length (updated (h .issued) (h .office .session) [] (h .office .session)) ≡ 0 = ap length (updated-same (h .issued) (h .office .session) []) in
+        subst (λ (x : Office). OfficeAlike (h .box) x (with-welcome h σ)) (λ i. office-of Live (sym own i) σ (count i) 0 window)
+        (backed (none-held (b .sized) count))
 
 ack-alike : {box : BoxHistory} {x : Office} {h : History} → OfficeAlike box x h → (s k : ℕ) → OfficeAlike box (office.acknowledged x s k) (rule-ack h s k)
 unfolding office.acknowledged rule-ack
-ack-alike (backed {h} {window} b y) s k =
+ack-alike (backed {h} {window} b) s k =
     rw (live-of (h .office .stage), cond-and, cond-and, cond-and) (cond-both (OfficeAlike (h .box)) (is-live (h .office .stage))
     (λ _. cond-both (OfficeAlike (h .box)) (eqb s (h .office .session))
     (λ own. cond-both (OfficeAlike (h .box)) (ltb (h .office .confirmed) k)
     (λ above. cond-both (OfficeAlike (h .box)) (leb k (length (orders h)))
-    (λ _. news (eqb-true _ _ own) (ltb-true _ k above)) (λ _. backed b y))
-    (λ _. backed b y))
-    (λ _. backed b y))
-    (λ _. backed b y))
+    (λ _. news (eqb-true _ _ own) (ltb-true _ k above)) (λ _. backed b))
+    (λ _. backed b))
+    (λ _. backed b))
+    (λ _. backed b))
   where
     news : s ≡ h .office .session → h .office .confirmed < k →
         OfficeAlike (h .box) (office-of Live s (h .office .settings) (length (orders h)) k window) (with-office h live (h .office .settings) k)
     news own above =
         subst (λ (t : ℕ). OfficeAlike (h .box) (office-of Live t (h .office .settings) (length (orders h)) k window) (with-office h live (h .office .settings) k)) (sym own)
-        (backed (record { sized = b .sized; holds = λ n (higher : k < n) inside. b .holds n (omega arith) inside }) impossible)
+        (backed (record { sized = b .sized; holds = λ n (higher : k < n) inside. b .holds n (omega arith) inside }))
 
 refuse-alike : {box : BoxHistory} {x : Office} {h : History} → OfficeAlike box x h → (s r : ℕ) → OfficeAlike box (office.ended x s r) (rule-refuse h s r)
 unfolding office.ended rule-refuse
-refuse-alike (backed {h} b y) s r =
+refuse-alike (backed {h} b) s r =
     let g = h .office .stage in
     rw (awaiting-of g, live-of g, cond-and, cond-and) (cond-both (OfficeAlike (h .box)) (is-awaiting g || is-live g)
     (λ _. cond-both (OfficeAlike (h .box)) (eqb s (h .office .session))
-    (λ _. cond-both (OfficeAlike (h .box)) (eqb r 5 || eqb r 6) (λ _. backed b impossible) (λ _. backed b y))
-    (λ _. backed b y))
-    (λ _. backed b y))
+    (λ _. cond-both (OfficeAlike (h .box)) (eqb r 5 || eqb r 6) (λ _. backed b) (λ _. backed b))
+    (λ _. backed b))
+    (λ _. backed b))
 
 read-alike : {box : BoxHistory} {x : Office} {h : History} → OfficeAlike box x h → (m : Option Frame) → TurnAlike box (received x m) (rule-office-frame h m)
 unfolding received rule-office-frame
@@ -250,13 +246,13 @@ progress-of h live window = refl
 progress-of h ended window = refl
 
 pub same-progress : {box : BoxHistory} {x : Office} {h : History} → OfficeAlike box x h → office.progress x ≡ progress h
-same-progress (backed {h} {window} _ _) = progress-of h (h .office .stage) window
+same-progress (backed {h} {window} _) = progress-of h (h .office .stage) window
 
 -- ---- the box's part
 
 pub same-box : {box : BoxHistory} {x : Office} {h : History} → OfficeAlike box x h → h .box ≡ box
-same-box (backed _ _) = refl
+same-box (backed _) = refl
 
 pub other-box : {box : BoxHistory} {x : Office} {h : History} → OfficeAlike box x h → (b : BoxHistory) →
     OfficeAlike b x (record { issued = h .issued; box = b; office = h .office })
-other-box (backed {h} b y) box = backed {h = record { issued = h .issued; box = box; office = h .office }} b y
+other-box (backed {h} b) box = backed {h = record { issued = h .issued; box = box; office = h .office }} b

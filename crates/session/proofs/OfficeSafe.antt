@@ -16,7 +16,7 @@ use Rattle.link.specs.View.{frame-limit}
 use Rattle.order.specs.Apply.{apply}
 use Rattle.session.specs.Turn.{window-limit, order-limit, Turn, wrote}
 use Rattle.session.specs.Calls.{answer-of, Log, named-unless, logged-at-office, FitsSession, FitsChange}
-use Rattle.session.specs.History.{live, is-awaiting, is-live, History, updated, orders, with-office, with-opening, with-issued, unanswered, sent-again}
+use Rattle.session.specs.History.{live, is-awaiting, is-live, History, updated, orders, with-office, with-opening, with-welcome, with-issued, unanswered, sent-again}
 use Rattle.session.specs.History.{rule-opening, rule-issue, rule-resend, rule-reopen, rule-welcome, rule-ack, rule-refuse, rule-office-frame}
 use Rattle.session.proofs.Tools.{impossible, updated-same, updated-each, updated-by-own, getElem?-below, getElem?-append, getElem?-last, getElem?-each, length-one-more}
 use Rattle.session.proofs.Tools.{prefix-append, EachDecodes, decodes-weaker, decodes-one-more}
@@ -163,12 +163,14 @@ module _ (h : History) (l : Log) (safe : Safe h l) where
       cond-cases (λ g. Safe g l) (is-awaiting (h .office .stage) && eqb s (h .office .session)) _ _
       (λ both. let (waits, own) = both-true _ _ both in opened waits (rw (eqb-true s (h .office .session) own) at reply)) (λ _. safe)
     where
-      opened : is-awaiting (h .office .stage) ≡ true → Reply (h .box) (welcome (h .office .session) σ) → Safe (with-office h live σ (h .office .confirmed)) l
+      opened : is-awaiting (h .office .stage) ≡ true → Reply (h .box) (welcome (h .office .session) σ) → Safe (with-welcome h σ) l
       opened waits own-reply =
           let (m, empty) = safe .office .while-awaiting waits in
           let now : LiveSafe (h .box) (h .office .session) σ (orders h) (l .named) =
           record { is-named = m; welcomed = σ; reply = own-reply; followed = ap (settings-after σ) (sym empty) } in
-          search now
+          subst (λ (issued : ℕ → List Change). Safe (record { issued = issued; box = h .box; office = with-welcome h σ .office }) l)
+          (sym (updated-by-own (h .issued) (h .office .session) [] empty))
+          (search (now, none-confirmed (h .box) (h .office .session)))
 
   ack-safe : (s k : ℕ) → Reply (h .box) (ack s k) → Safe (rule-ack h s k) l
   unfolding rule-ack

@@ -69,7 +69,7 @@ follows (c ∷ cs) e h l a safe (permitted, allowed) =
 
 same-office : {b : BoxHistory} {x : Office} {h : History} → OfficeAlike b x h →
     (x .session .0 ≡ h .office .session) × (x .confirmed .0 ≡ h .office .confirmed) × (x .issued .0 ≡ length (orders h)) × (x .settings ≡ h .office .settings)
-same-office (backed _ _) = (refl, refl, refl, refl)
+same-office (backed _) = (refl, refl, refl, refl)
 
 module _ (e : Ends) (h : History) (a : EndsAlike e h) (l : Log) (safe : Safe h l) where
   box-agrees : BoxAgrees e h

@@ -124,6 +124,12 @@ abbrev pub with-opening : History → ℕ → History
 with-opening h s =
     record { issued = updated (h .issued) s []; box = h .box; office = record { stage = awaiting; session = s; settings = fresh; confirmed = 0 } }
 
+-- WELCOME opens the office's session with its settings, none issued and none confirmed
+abbrev pub with-welcome : History → Settings → History
+with-welcome h σ =
+    let s = h .office .session in
+    record { issued = updated (h .issued) s []; box = h .box; office = record { stage = live; session = s; settings = σ; confirmed = 0 } }
+
 abbrev pub with-issued : History → Change → History
 with-issued h c =
     let o = h .office in
@@ -169,7 +175,7 @@ rule-reopen h room =
 unfoldable pub rule-welcome : History → ℕ → Settings → History
 rule-welcome h s σ =
     let o = h .office in
-    cond (is-awaiting (o .stage) && eqb s (o .session)) (with-office h live σ (o .confirmed)) h
+    cond (is-awaiting (o .stage) && eqb s (o .session)) (with-welcome h σ) h
 
 unfoldable pub rule-ack : History → ℕ → ℕ → History
 rule-ack h s k =
