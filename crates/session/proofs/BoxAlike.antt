@@ -25,14 +25,14 @@ use Rattle.session.proofs.Tools.{updated-same, length-one-more}
 use Rattle.session.specs.Turn.{Turn, wrote, silent, refused, refused-by}
 
 -- histories and boxes that hold the settings of the controller κ; an open session is the highest
-abbrev history-of : Controller → ℕ → Option ℕ → (ℕ → List Change) → BoxHistory
-history-of κ highest session taken = record { highest = highest; session = session; settings = κ .settings; taken = taken }
+abbrev history-of : Controller → ℕ → Option ℕ → (ℕ → Settings) → (ℕ → List Change) → BoxHistory
+history-of κ highest session opened taken = record { highest = highest; session = session; settings = κ .settings; opened = opened; taken = taken }
 
 pub data CabAlike : Cab → BoxHistory → Type 0 where
-  closed : {κ : Controller} {highest count : ℕ} {taken : ℕ → List Change} → Ready κ →
-      CabAlike (cab-of κ highest false count) (history-of κ highest none taken)
-  active : {κ : Controller} {highest : ℕ} {taken : ℕ → List Change} → Ready κ →
-      CabAlike (cab-of κ highest true (length (taken highest))) (history-of κ highest (some highest) taken)
+  closed : {κ : Controller} {highest count : ℕ} {initial : ℕ → Settings} {taken : ℕ → List Change} → Ready κ →
+      CabAlike (cab-of κ highest false count) (history-of κ highest none initial taken)
+  active : {κ : Controller} {highest : ℕ} {initial : ℕ → Settings} {taken : ℕ → List Change} → Ready κ →
+      CabAlike (cab-of κ highest true (length (taken highest))) (history-of κ highest (some highest) initial taken)
 
 abbrev pub BoxAlike : Turn Cab → Turn BoxHistory → Type 0
 BoxAlike t u = Alike CabAlike t u
@@ -42,46 +42,47 @@ restart-alike b told = answered-alike (closed fresh-ready)
 
 -- ---- OPEN
 
-newly-opened : (κ : Controller) (taken : ℕ → List Change) (s : ℕ) → Ready κ →
-    CabAlike (cab-of κ s true 0) (history-of κ s (some s) (updated taken s []))
-newly-opened κ taken s ready =
-    subst (λ (n : ℕ). CabAlike (cab-of κ s true n) (history-of κ s (some s) (updated taken s [])))
+newly-opened : (κ : Controller) (initial : ℕ → Settings) (taken : ℕ → List Change) (s : ℕ) → Ready κ →
+    CabAlike (cab-of κ s true 0) (history-of κ s (some s) initial (updated taken s []))
+newly-opened κ initial taken s ready =
+    subst (λ (n : ℕ). CabAlike (cab-of κ s true n) (history-of κ s (some s) initial (updated taken s [])))
     (ap length (updated-same taken s [])) (active ready)
 
 -- OPEN of the open session
-again-alike : (κ : Controller) (highest : ℕ) (taken : ℕ → List Change) → Ready κ → (s : ℕ) → highest ≡ s →
+again-alike : (κ : Controller) (highest : ℕ) (initial : ℕ → Settings) (taken : ℕ → List Change) → Ready κ → (s : ℕ) → highest ≡ s →
     let c = cab-of κ highest true (length (taken highest)) in
-    let b = history-of κ highest (some highest) taken in
+    let b = history-of κ highest (some highest) initial taken in
     BoxAlike (cond (eqb (length (taken highest)) 0) (welcomed c) (acknowledged c))
     (cond (eqb (length (taken s)) 0) (wrote b (welcome s (b .settings))) (wrote b (ack s (length (taken s)))))
-again-alike κ highest taken ready s e =
+again-alike κ highest initial taken ready s e =
     rw (← e) (cond-both BoxAlike (eqb (length (taken highest)) 0) (λ _. answered-alike (active ready)) (λ _. answered-alike (active ready)))
 
 open-alike : {c : Cab} {b : BoxHistory} → CabAlike c b → (s : ℕ) → BoxAlike (opened c s) (rule-open b s)
 unfolding opened opened-again rule-open
-open-alike (closed {κ} {highest} {count} {taken} ready) s =
+open-alike (closed {κ} {highest} {count} {initial} {taken} ready) s =
     cond-both BoxAlike (ltb highest s)
-    (λ _. answered-alike (newly-opened κ taken s ready))
+    (λ _. answered-alike (newly-opened κ _ taken s ready))
     (λ _. answered-alike (closed ready))
-open-alike (active {κ} {highest} {taken} ready) s =
+open-alike (active {κ} {highest} {initial} {taken} ready) s =
     cond-both BoxAlike (ltb highest s)
-    (λ _. answered-alike (newly-opened κ taken s ready))
+    (λ _. answered-alike (newly-opened κ _ taken s ready))
     (λ _. rw (eqb-sym s highest) (cond-both BoxAlike (eqb highest s)
-    (λ e. again-alike κ highest taken ready s (eqb-true highest s e))
+    (λ e. again-alike κ highest initial taken ready s (eqb-true highest s e))
     (λ _. answered-alike (active ready))))
 
 -- ---- ORDER
 
 -- the next order, run: the controller comes to what the change means
-taken-alike : (κ : Controller) (highest : ℕ) (taken : ℕ → List Change) (n : ℕ) (change : Change) → Ready κ → ValidChange change → n ≡ length (taken highest) + 1 →
-    CabAlike (cab-of (obeyed κ change) highest true n) (with-taken (history-of κ highest (some highest) taken) highest change)
+taken-alike : (κ : Controller) (highest : ℕ) (initial : ℕ → Settings) (taken : ℕ → List Change) (n : ℕ) (change : Change) → Ready κ → ValidChange change → n ≡ length (taken highest) + 1 →
+    CabAlike (cab-of (obeyed κ change) highest true n) (with-taken (history-of κ highest (some highest) initial taken) highest change)
 unfolding sent
-taken-alike κ highest taken n change ready valid next =
+taken-alike κ highest initial taken n change ready valid next =
     let obeyed-well = obeys κ change ready (valid-short (κ .settings .backlight) change valid) in
     let more = updated taken highest (taken highest ++ (change ∷ [])) in
     let count : length (more highest) ≡ n = ap length (updated-same taken highest (taken highest ++ (change ∷ []))) ∙ length-one-more (taken highest) change ∙ sym next in
-    subst (λ (m : ℕ). CabAlike (cab-of (obeyed κ change) highest true m) (with-taken (history-of κ highest (some highest) taken) highest change)) count
-    (subst (λ (σ : Settings). CabAlike (cab-of (obeyed κ change) highest true (length (more highest))) (record { highest = highest; session = some highest; settings = σ; taken = more }))
+    subst (λ (m : ℕ). CabAlike (cab-of (obeyed κ change) highest true m) (with-taken (history-of κ highest (some highest) initial taken) highest change)) count
+    (subst (λ (σ : Settings). CabAlike (cab-of (obeyed κ change) highest true (length (more highest)))
+    (record { highest = highest; session = some highest; settings = σ; opened = initial; taken = more }))
     (obeyed-well .1) (active (obeyed-well .0)))
 
 next-test : (n k : ℕ) → eqb (n - k) 1 ≡ eqb n (k + 1)
@@ -91,27 +92,27 @@ next-test n k =
     (λ e. eq-eqb (n - k) 1 (omega (arith, eqb-true n (k + 1) e)))
 
 -- ORDER of the open session
-here-alike : (κ : Controller) (highest : ℕ) (taken : ℕ → List Change) (n : ℕ) (change : Change) → Ready κ → ValidChange change → (s : ℕ) → highest ≡ s →
+here-alike : (κ : Controller) (highest : ℕ) (initial : ℕ → Settings) (taken : ℕ → List Change) (n : ℕ) (change : Change) → Ready κ → ValidChange change → (s : ℕ) → highest ≡ s →
     let c = cab-of κ highest true (length (taken highest)) in
-    let b = history-of κ highest (some highest) taken in
+    let b = history-of κ highest (some highest) initial taken in
     BoxAlike (ordered-here c n change)
     (cond (leb n (length (taken s))) (wrote b (ack s (length (taken s))))
     (cond (eqb n (length (taken s) + 1)) (wrote (with-taken b s change) (ack s n))
     (refused-by b s 7)))
 unfolding ordered-here
-here-alike κ highest taken n change ready valid s e =
+here-alike κ highest initial taken n change ready valid s e =
     rw (← e) (cond-both BoxAlike (leb n (length (taken highest))) (λ _. answered-alike (active ready))
     (λ _. rw (next-test n (length (taken highest))) (cond-both BoxAlike (eqb n (length (taken highest) + 1))
-    (λ next. answered-alike (taken-alike κ highest taken n change ready valid (eqb-true n (length (taken highest) + 1) next)))
+    (λ next. answered-alike (taken-alike κ highest initial taken n change ready valid (eqb-true n (length (taken highest) + 1) next)))
     (λ _. answered-alike (active ready)))))
 
 order-alike : {c : Cab} {b : BoxHistory} → CabAlike c b → (s n : ℕ) (change : Change) → ValidChange change →
     BoxAlike (ordered c s n change) (rule-order (b .session) b s n change)
 unfolding ordered rule-order
 order-alike (closed ready) s n change valid = answered-alike (closed ready)
-order-alike (active {κ} {highest} {taken} ready) s n change valid =
+order-alike (active {κ} {highest} {initial} {taken} ready) s n change valid =
     rw (eqb-sym s highest) (cond-both BoxAlike (eqb highest s)
-    (λ e. here-alike κ highest taken n change ready valid s (eqb-true highest s e))
+    (λ e. here-alike κ highest initial taken n change ready valid s (eqb-true highest s e))
     (λ _. answered-alike (active ready)))
 
 -- ---- any frame

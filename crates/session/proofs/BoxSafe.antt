@@ -17,7 +17,7 @@ use Rattle.link.specs.View.{frame-limit}
 use Rattle.order.proofs.Keeps.{apply-held}
 use Rattle.session.specs.Turn.{Turn, wrote, silent, refused, refused-by}
 use Rattle.session.specs.Calls.{answer-of, Log, with-frame, logged-at-box, FitsSession}
-use Rattle.session.specs.History.{is-live, BoxHistory, History, orders, updated, restarted, with-session, with-taken, is-open, rule-open, rule-order, rule-box-frame, at-box}
+use Rattle.session.specs.History.{is-live, BoxHistory, History, settings-after, orders, updated, restarted, with-session, with-taken, is-open, rule-open, rule-order, rule-box-frame, at-box}
 use Rattle.session.proofs.Tools.{updated-same, updated-other, updated-each, updated-by-own, getElem?-below, length-one-more}
 use Rattle.session.proofs.Tools.{Prefix, prefix-length, prefix-next, EachDecodes, decodes-weaker, decodes-one-more}
 use Rattle.session.proofs.Invariant.{settings-next, Request, request-opening, request-order, Reply, reply-welcome, reply-ack, reply-refuse, SessionSafe, BoxSafe, LiveSafe, Safe, taken-first}
@@ -83,14 +83,14 @@ module _ (h : History) (l : Log) (safe : Safe h l) where
   restart-follows : (told : ℕ) → told ≡ l .highest → BoxFollows h l (restarted (h .box) told)
   restart-follows told e =
       record {
-        box = record { opened = omega arith; above = λ s higher. safe .box .above s (omega arith); held = fresh-held };
+        box = record { bounded = omega arith; above = λ s higher. safe .box .above s (omega arith); followed = λ s here. absurd (Option·none-ne-some s here); held = fresh-held };
         stays = stays;
         prefix = taken-first h l safe;
         highest = omega arith;
       }
     where
       stays : (f : Frame) → Reply (h .box) f → Reply (restarted (h .box) told) f
-      stays _ (reply-welcome {s = s} below _) = reply-welcome {s = s} (omega arith) (λ here. absurd (Option·none-ne-some s here))
+      stays _ (reply-welcome {s = s} below settings) = reply-welcome {s = s} (omega arith) settings
       stays _ (reply-ack count) = reply-ack count
       stays _ reply-refuse = reply-refuse
 
@@ -101,20 +101,23 @@ module _ (h : History) (l : Log) (safe : Safe h l) where
 
   module _ (s : ℕ) (higher : h .box .highest < s) where
     abbrev opened : (ℕ → List Change) → BoxHistory
-    opened taken = record { highest = s; session = some s; settings = h .box .settings; taken = taken }
+    opened taken = record { highest = s; session = some s; settings = h .box .settings; opened = with-session (h .box) s .opened; taken = taken }
 
     opened-follows : BoxFollows h l (opened (h .box .taken))
     opened-follows =
         record {
-          box = record { opened = omega arith; above = λ t above. safe .box .above t (omega arith); held = safe .box .held };
+          box = record { bounded = omega arith; above = λ t above. safe .box .above t (omega arith); followed = followed; held = safe .box .held };
           stays = stays;
           prefix = taken-first h l safe;
           highest = omega arith;
         }
       where
+        followed : (t : ℕ) → some s ≡ some t → h .box .settings ≡ settings-after (with-session (h .box) s .opened t) (h .box .taken t)
+        followed t here = rw (← Option·some-injective s t here, updated-same (h .box .opened) s _, safe .box .above s higher)
+
         stays : (f : Frame) → Reply (h .box) f → Reply (opened (h .box .taken)) f
-        stays _ (reply-welcome {s = t} below _) =
-            reply-welcome {s = t} (omega arith) (λ here. absurd (omega (arith, Option·some-injective s t here)))
+        stays _ (reply-welcome {s = t} below settings) =
+            reply-welcome {s = t} (omega arith) (settings ∙ sym (updated-other (h .box .opened) s _ t (λ e. omega arith)))
         stays _ (reply-ack count) = reply-ack count
         stays _ reply-refuse = reply-refuse
 
@@ -124,10 +127,10 @@ module _ (h : History) (l : Log) (safe : Safe h l) where
         let reply = welcome s (h .box .settings) in
         subst (λ (taken : ℕ → List Change). BoxTurnSafe h l (wrote (opened taken) reply)) (sym (updated-by-own (h .box .taken) s [] empty))
         (box-wrote (opened (h .box .taken)) opened-follows none reply (valid-welcome fits (safe .box .held))
-        (reply-welcome (omega arith) (λ _. rw empty)))
+        (reply-welcome (omega arith) (sym (updated-same (h .box .opened) s _))))
 
   session-below : (s : ℕ) → h .box .session ≡ some s → s ≤ h .box .highest
-  session-below s here = subst (λ (session : Option ℕ). Option·getD session 0 ≤ h .box .highest) here (safe .box .opened)
+  session-below s here = subst (λ (session : Option ℕ). Option·getD session 0 ≤ h .box .highest) here (safe .box .bounded)
 
   open-safe : (s : ℕ) → FitsSession s → BoxTurnSafe h l (rule-open (h .box) s)
   unfolding rule-open
@@ -136,7 +139,8 @@ module _ (h : History) (l : Log) (safe : Safe h l) where
       (λ _. cond-cases (BoxTurnSafe h l) (is-open (h .box .session) s) _ _
       (λ e. cond-cases (BoxTurnSafe h l) (eqb (length (h .box .taken s)) 0) _ _
       (λ empty. replied none (welcome s (h .box .settings)) (valid-welcome fits (safe .box .held))
-      (reply-welcome (session-below s (open-session _ s e)) (λ _. rw (← take-all 0 (h .box .taken s) (omega (arith, eqb-true))))))
+      (reply-welcome (session-below s (open-session _ s e))
+      (safe .box .followed s (open-session _ s e) ∙ ap (settings-after (h .box .opened s)) (sym (take-all 0 (h .box .taken s) (omega (arith, eqb-true)))))))
       (λ _. replied-ack s fits))
       (λ _. replied-refuse s 6 fits (omega arith) (omega arith)))
 
@@ -155,8 +159,9 @@ module _ (h : History) (l : Log) (safe : Safe h l) where
     taken-follows valid =
         record {
           box = record {
-            opened = safe .box .opened;
+            bounded = safe .box .bounded;
             above = λ t above. updated-other (h .box .taken) s taken-now t (λ e. omega (arith, session-below s here)) ∙ safe .box .above t above;
+            followed = λ t e. rw (taken-in t e) (settings-next (h .box .opened t) (h .box .settings) (h .box .taken t) c (safe .box .followed t e));
             held = apply-held (h .box .settings) c valid (safe .box .held);
           };
           stays = stays;
@@ -167,8 +172,7 @@ module _ (h : History) (l : Log) (safe : Safe h l) where
         }
       where
         stays : (f : Frame) → Reply (h .box) f → Reply (with-taken (h .box) s c) f
-        stays _ (reply-welcome {s = t} {σ = σ} below settings) =
-            reply-welcome {σ = σ} below (λ e. rw (taken-in t e) (settings-next σ (h .box .settings) (h .box .taken t) c (settings e)))
+        stays _ (reply-welcome below settings) = reply-welcome below settings
         stays _ (reply-ack {s = t} {k = k} count) =
             reply-ack (updated-each (h .box .taken) s taken-now (λ t taken. k ≤ length (h .box .taken t) → k ≤ length taken)
             (λ before. omega (arith, length-one-more (h .box .taken s) c)) (λ _ _ before. before) t count)

@@ -3,7 +3,7 @@ use Prim.Native.Nat.{ℕ, _-_, _<_, _≤_}
 use native.Mathlib.Omega.{arith}
 use mathlib.Core.Path.{_≡_, refl, sym, ap, _∙_}
 use mathlib.Core.Bool.{true}
-use mathlib.Core.List.{List, [], _∷_, _++_, foldl, foldl-append, List·Memᴰ, List·Memᴰ·not-nil}
+use mathlib.Core.List.{List, [], _∷_, _++_, foldl-append, List·Memᴰ, List·Memᴰ·not-nil}
 use mathlib.Core.Option.{some, Option·getD, Option·none-ne-some}
 use lib.ListN.{length, getElem?}
 use Rattle.settings.specs.declared.settings.Settings.{Settings}
@@ -12,13 +12,9 @@ use Rattle.settings.proofs.RangeLaws.{fresh-held}
 use Rattle.frame.specs.Frame.{Change, ValidChange, Frame, opening, welcome, order, ack, refuse}
 use Rattle.order.specs.Apply.{apply}
 use Rattle.session.specs.Calls.{Log, first-log, FitsSession}
-use Rattle.session.specs.History.{is-awaiting, is-live, BoxHistory, OfficeHistory, History, first-history, orders}
+use Rattle.session.specs.History.{is-awaiting, is-live, BoxHistory, OfficeHistory, History, first-history, settings-after, orders}
 use Rattle.session.specs.Turn.{order-limit}
 use Rattle.session.proofs.Tools.{impossible, Prefix, EachDecodes}
-
--- the settings after a list of changes
-abbrev pub settings-after : Settings → List Change → Settings
-settings-after σ changes = foldl apply σ changes
 
 pub settings-next : (σ τ : Settings) (changes : List Change) (c : Change) → τ ≡ settings-after σ changes →
     apply τ c ≡ settings-after σ (changes ++ (c ∷ []))
@@ -29,10 +25,9 @@ pub data Request (issued : ℕ → List Change) : Frame → Type 0 where
   request-opening : {s : ℕ} → Request issued (opening s)
   request-order : {s n : ℕ} {c : Change} → getElem? (issued s) (n - 1) ≡ some c → Request issued (order s n c)
 
--- true frames of the box: WELCOME has the settings before the changes of its session, ACK counts no more than were taken
+-- true frames of the box: WELCOME has the settings that its session opened with, ACK counts no more than were taken
 pub data Reply (b : BoxHistory) : Frame → Type 0 where
-  reply-welcome : {s : ℕ} {σ : Settings} → s ≤ b .highest → (b .session ≡ some s → b .settings ≡ settings-after σ (b .taken s)) →
-      Reply b (welcome s σ)
+  reply-welcome : {s : ℕ} {σ : Settings} → s ≤ b .highest → σ ≡ b .opened s → Reply b (welcome s σ)
   reply-ack : {s k : ℕ} → k ≤ length (b .taken s) → Reply b (ack s k)
   reply-refuse : {s r : ℕ} → Reply b (refuse s r)
 
@@ -43,10 +38,11 @@ pub record SessionSafe (s : ℕ) (issued taken : List Change) (named : List ℕ)
   pub valid : (i : ℕ) (c : Change) → getElem? issued i ≡ some c → ValidChange c
   pub prefix : Prefix taken issued
 
--- no session above the highest was open
+-- no session above the highest was open, and the open one's changes made the settings
 pub record BoxSafe (b : BoxHistory) : Type 0 where
-  pub opened : Option·getD (b .session) 0 ≤ b .highest
+  pub bounded : Option·getD (b .session) 0 ≤ b .highest
   pub above : (s : ℕ) → b .highest < s → b .taken s ≡ []
+  pub followed : (s : ℕ) → b .session ≡ some s → b .settings ≡ settings-after (b .opened s) (b .taken s)
   pub held : Held (b .settings)
 
 -- a session of the office whose settings are those of its WELCOME after the changes issued
@@ -81,7 +77,7 @@ pub safe-first : Safe first-history first-log
 safe-first =
     record {
       sessions = λ _. record { unnamed = λ _. refl; counted = omega arith; valid = λ _ c e. absurd (Option·none-ne-some c e); prefix = refl };
-      box = record { opened = omega arith; above = λ _ _. refl; held = fresh-held };
+      box = record { bounded = omega arith; above = λ _ _. refl; followed = λ s e. absurd (Option·none-ne-some s e); held = fresh-held };
       office = record { fits = omega arith; confirmed = none-confirmed _ 0; while-awaiting = impossible; while-live = impossible };
       highest = refl;
       requests = λ _ m. absurd (List·Memᴰ·not-nil m);

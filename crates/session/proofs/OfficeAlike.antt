@@ -23,7 +23,8 @@ use Rattle.session.specs.declared.Order.{Order}
 use Rattle.session.specs.declared.Stage.{Stage as OfficeStage}
 use Rattle.session.specs.declared.Stage.the-variants.{Unopened, Awaiting, Live, Ended}
 use Rattle.session.proofs.Alike.{Alike, answered-alike, cond-both, cond-and}
-use Rattle.session.specs.History.{Stage, unopened, awaiting, live, ended, is-awaiting, is-live, BoxHistory, History, first-history, updated, orders, with-office, with-opening, with-welcome, with-issued}
+use Rattle.session.specs.History.{Stage, unopened, awaiting, live, ended, is-awaiting, is-live, BoxHistory, History, first-history}
+use Rattle.session.specs.History.{updated, orders, with-office, with-opening, with-welcome, with-issued}
 use Rattle.session.specs.History.{rule-opening, rule-issue, sent-again, rule-resend, rule-reopen, rule-welcome, rule-ack, rule-refuse, rule-office-frame, progress-at, progress}
 use Rattle.session.specs.Office as office
 use Rattle.session.specs.Office.{order-of, no-order, empty-window, office-of, never, with-order, issue-unless, kept-change, received}

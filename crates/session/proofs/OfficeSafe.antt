@@ -16,11 +16,11 @@ use Rattle.link.specs.View.{frame-limit}
 use Rattle.order.specs.Apply.{apply}
 use Rattle.session.specs.Turn.{window-limit, order-limit, Turn, wrote}
 use Rattle.session.specs.Calls.{answer-of, Log, named-unless, logged-at-office, FitsSession, FitsChange}
-use Rattle.session.specs.History.{live, is-awaiting, is-live, History, updated, orders, with-office, with-opening, with-welcome, with-issued, unanswered, sent-again}
+use Rattle.session.specs.History.{live, is-awaiting, is-live, History, settings-after, updated, orders, with-office, with-opening, with-welcome, with-issued, unanswered, sent-again}
 use Rattle.session.specs.History.{rule-opening, rule-issue, rule-resend, rule-reopen, rule-welcome, rule-ack, rule-refuse, rule-office-frame}
 use Rattle.session.proofs.Tools.{impossible, updated-same, updated-each, updated-by-own, getElem?-below, getElem?-append, getElem?-last, getElem?-each, length-one-more}
 use Rattle.session.proofs.Tools.{prefix-append, EachDecodes, decodes-weaker, decodes-one-more}
-use Rattle.session.proofs.Invariant.{settings-after, settings-next, Request, request-opening, request-order, Reply, SessionSafe, LiveSafe, Safe, none-confirmed}
+use Rattle.session.proofs.Invariant.{settings-next, Request, request-opening, request-order, Reply, SessionSafe, LiveSafe, Safe, none-confirmed}
 
 abbrev OfficeTurnSafe : Log → Turn History → Type 0
 OfficeTurnSafe l t = Safe (t .state) (logged-at-office l (answer-of t) (l .named))

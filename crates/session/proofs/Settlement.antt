@@ -1,7 +1,7 @@
 -- Settlement: what safety gives of the counts, and of the settings where the office says settled.
 use Prim.Native.Nat.{ℕ, _≤_}
 use native.Mathlib.Omega.{arith}
-use mathlib.Core.Path.{_≡_, refl, sym, ap, _∙_}
+use mathlib.Core.Path.{_≡_, refl, sym, _∙_}
 use mathlib.Core.Bool.{Bool, true, false, cond}
 use mathlib.Core.Option.{some}
 use lib.ListN.{length}
@@ -11,14 +11,14 @@ use Rattle.settings.specs.declared.settings.Settings.{Settings}
 use Rattle.frame.specs.Frame.{welcome, ack}
 use Rattle.session.specs.declared.Progress.the-variants.{Settled, Waiting}
 use Rattle.session.specs.Calls.{Log}
-use Rattle.session.specs.History.{Stage, unopened, awaiting, live, ended, is-live, BoxHistory, History, orders, progress-at, progress}
-use Rattle.session.proofs.Invariant.{settings-after, Reply, reply-welcome, reply-ack, Safe, taken-first}
+use Rattle.session.specs.History.{Stage, unopened, awaiting, live, ended, is-live, BoxHistory, History, settings-after, orders, progress-at, progress}
+use Rattle.session.proofs.Invariant.{Reply, reply-welcome, reply-ack, Safe, taken-first}
 use Rattle.session.proofs.Tools.{prefix-whole}
 
 reply-count : {b : BoxHistory} {s k : ℕ} → Reply b (ack s k) → k ≤ length (b .taken s)
 reply-count (reply-ack count) = count
 
-reply-settings : {b : BoxHistory} {s : ℕ} {σ : Settings} → Reply b (welcome s σ) → b .session ≡ some s → b .settings ≡ settings-after σ (b .taken s)
+reply-settings : {b : BoxHistory} {s : ℕ} {σ : Settings} → Reply b (welcome s σ) → σ ≡ b .opened s
 reply-settings (reply-welcome _ settings) = settings
 
 -- settled only while live, with all orders confirmed
@@ -44,4 +44,4 @@ module _ (h : History) (l : Log) (safe : Safe h l) where
       let office = safe .office .while-live lives in
       let all-taken : h .box .taken (h .office .session) ≡ orders h =
       prefix-whole _ _ (taken-first h l safe (h .office .session)) (omega (arith, confirmed-at-most-taken)) in
-      office .followed ∙ ap (settings-after (office .welcomed)) (sym all-taken) ∙ sym (reply-settings (office .reply) same-session)
+      office .followed ∙ (λ i. settings-after (reply-settings (office .reply) i) (sym all-taken i)) ∙ sym (safe .box .followed (h .office .session) same-session)

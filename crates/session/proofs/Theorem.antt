@@ -11,7 +11,7 @@ use Rattle.session.specs.declared.Office.{Office}
 use Rattle.session.specs.declared.Progress.the-variants.{Settled}
 use Rattle.session.specs.Calls.{Call, answer-of, state-after, answers, first-ends, ends-rules, cab-session, Log, first-log, logged, Permitted, AllowedFrom}
 use Rattle.session.specs.Claim.{BoxAgrees, OfficeAgrees, Demand3}
-use Rattle.session.specs.History.{BoxHistory, History, first-history, orders, rules}
+use Rattle.session.specs.History.{BoxHistory, History, first-history, settings-after, orders, rules}
 use Rattle.session.specs.Office as office
 use Rattle.session.proofs.Alike.{same-answer}
 use Rattle.session.proofs.BoxAlike.{CabAlike, closed, active}
@@ -74,14 +74,17 @@ same-office (backed _) = (refl, refl, refl, refl)
 module _ (e : Ends) (h : History) (a : EndsAlike e h) (l : Log) (safe : Safe h l) where
   box-agrees : BoxAgrees e h
   box-agrees =
-      let counted = same-taken (a .cab) in
       record {
         session = same-session (a .cab);
         highest = same-highest (a .cab);
         settings = same-settings (a .cab);
-        taken-count = counted;
-        first-taken = λ s here. taken-first h l safe s ∙ ap (λ (k : ℕ). take k (h .issued s)) (sym (counted s here));
+        taken-count = same-taken (a .cab);
+        first-taken = first-taken;
+        settings-follow = λ s here. same-settings (a .cab) ∙ safe .box .followed s here ∙ ap (settings-after (h .box .opened s)) (first-taken s here);
       }
+    where
+      first-taken : (s : ℕ) → h .box .session ≡ some s → h .box .taken s ≡ take (e .cab .taken .0) (h .issued s)
+      first-taken s here = taken-first h l safe s ∙ ap (λ (k : ℕ). take k (h .issued s)) (sym (same-taken (a .cab) s here))
 
   office-agrees : OfficeAgrees e h
   office-agrees =

@@ -9,7 +9,7 @@ use Rattle.registers.specs.Block.{block}
 use Rattle.session.specs.declared.Ends.{Ends}
 use Rattle.session.specs.declared.Progress.the-variants.{Settled}
 use Rattle.session.specs.Calls.{Call, state-after, answers, first-ends, ends-rules, cab-session, Allowed}
-use Rattle.session.specs.History.{unopened, live, History, first-history, orders, rules, progress}
+use Rattle.session.specs.History.{unopened, live, History, first-history, settings-after, orders, rules, progress}
 use Rattle.session.specs.Office as office
 
 -- the box (in e) and the history, 01's book (h)
@@ -21,6 +21,9 @@ pub record BoxAgrees (e : Ends) (h : History) : Type 0 where
   -- while a session is open: so is k, and the orders taken are the first k issued in it
   pub taken-count : (s : ℕ) → h .box .session ≡ some s → e .cab .taken .0 ≡ length (h .box .taken s)
   pub first-taken : (s : ℕ) → h .box .session ≡ some s → h .box .taken s ≡ take (e .cab .taken .0) (h .issued s)
+  -- and the controller's settings are those it opened with, kept at its OPEN, then changed by the first k orders issued in it
+  pub settings-follow : (s : ℕ) → h .box .session ≡ some s →
+      e .cab .controller .settings ≡ settings-after (h .box .opened s) (take (e .cab .taken .0) (h .issued s))
 
 -- the office and the history
 pub record OfficeAgrees (e : Ends) (h : History) : Type 0 where

@@ -2,7 +2,7 @@
 -- With the ends it shares encoding and decoding, `apply`, `too-long`, the limits and the refusals' numbers.
 use Prim.Native.Nat.{ℕ, _+_, _-_}
 use mathlib.Core.Bool.{Bool, true, false, cond, _&&_, _||_}
-use mathlib.Core.List.{List, [], _∷_, _++_}
+use mathlib.Core.List.{List, [], _∷_, _++_, foldl}
 use mathlib.Core.Option.{Option, none, some}
 use lib.ListN.{length, getElem?}
 use lib.Dec.{eqb, leb, ltb}
@@ -21,6 +21,8 @@ pub record BoxHistory : Type 0 where
   pub highest : ℕ
   pub session : Option ℕ
   pub settings : Settings
+  -- by session, the settings it opened with
+  pub opened : ℕ → Settings
   -- by session, the changes taken: as many as 01's k
   pub taken : ℕ → List Change
 
@@ -57,24 +59,29 @@ abbrev pub first-history : History
 first-history =
     record {
       issued = λ _. [];
-      box = record { highest = 0; session = none; settings = fresh; taken = λ _. [] };
+      box = record { highest = 0; session = none; settings = fresh; opened = λ _. fresh; taken = λ _. [] };
       office = record { stage = unopened; session = 0; settings = fresh; confirmed = 0 };
     }
 
 abbrev pub updated : {A : Type 0} → (ℕ → A) → ℕ → A → ℕ → A
 updated f s a t = cond (eqb s t) a (f t)
 
+-- the settings after a list of changes
+abbrev pub settings-after : Settings → List Change → Settings
+settings-after σ changes = foldl apply σ changes
+
 -- ---- the box's rules
 
 abbrev pub restarted : BoxHistory → ℕ → BoxHistory
-restarted b told = record { highest = told; session = none; settings = fresh; taken = b .taken }
+restarted b told = record { highest = told; session = none; settings = fresh; opened = b .opened; taken = b .taken }
 
 abbrev pub with-session : BoxHistory → ℕ → BoxHistory
-with-session b s = record { highest = s; session = some s; settings = b .settings; taken = updated (b .taken) s [] }
+with-session b s =
+    record { highest = s; session = some s; settings = b .settings; opened = updated (b .opened) s (b .settings); taken = updated (b .taken) s [] }
 
 abbrev pub with-taken : BoxHistory → ℕ → Change → BoxHistory
 with-taken b s c =
-    record { highest = b .highest; session = b .session; settings = apply (b .settings) c; taken = updated (b .taken) s (b .taken s ++ (c ∷ [])) }
+    record { highest = b .highest; session = b .session; settings = apply (b .settings) c; opened = b .opened; taken = updated (b .taken) s (b .taken s ++ (c ∷ [])) }
 
 -- whether s is the open session
 abbrev pub is-open : Option ℕ → ℕ → Bool
