@@ -1,114 +1,113 @@
 -- Demand 1 at both ends, proved: refusals keep the state.
 use Prim.Native.Nat.{ℕ, _-_}
 use native.Mathlib.Omega.{arith}
+use mathlib.Core.Path.{_≡_, refl, ap, _∙_}
 use mathlib.Core.List.{List}
 use mathlib.Core.Option.{Option, none, some}
 use lib.Dec.{eqb, leb, ltb}
+use borrow.Author.Tests.{eqb-true}
 use Rattle.base.proofs.Tests.{cond-cases}
 use Rattle.frame.specs.Frame.{Change, Frame, opening, welcome, order, ack, refuse}
 use Rattle.link.specs.Encoding.{decode}
 use Rattle.link.specs.View.{frame-limit}
 use Rattle.session.specs.declared.Cab.{Cab}
+use Rattle.session.specs.declared.Ends.{Ends}
 use Rattle.session.specs.declared.Office.{Office}
 use Rattle.session.specs.Box.{opened-again, opened, ordered-here, ordered, received, frame-in}
-use Rattle.session.specs.Calls.{restart, box-frame, open-session, issue, resend, reopen, office-frame, at-cab, at-office}
-use Rattle.session.specs.declared.Ends.{Ends}
+use Rattle.session.specs.Calls.{Call, restart, box-frame, open-session, issue, resend, reopen, office-frame, at-cab, at-office}
 use Rattle.session.specs.Office as office
-use Rattle.session.specs.Refusals.{Keeps, accepts, refuses, writes-refusal, RefusalsKeep}
-use Rattle.session.specs.Turn.{Turn, refused-by}
+use Rattle.session.specs.Refusals.{for-box, Keeps, accepts, opening-refused, issuing-refused, resending-refused, reopening-refused, office-frame-refused}
+use Rattle.session.specs.Refusals.{output-short, not-for-box, open-refused, order-refused, RefusalsKeep}
+use Rattle.session.specs.Turn.{Turn}
 
--- ---- the box
+module _ (e : Ends) where
+  -- ---- the box
 
-opened-keeps : (c : Cab) (s : ℕ) → Keeps c (opened c s)
-unfolding opened opened-again
-opened-keeps c s =
-    cond-cases (Keeps c) (ltb (c .highest .0) s) _ _ (λ _. accepts)
-    (λ _. cond-cases (Keeps c) (c .active) _ _
-    (λ _. cond-cases (Keeps c) (eqb s (c .highest .0)) _ _
-    (λ _. cond-cases (Keeps c) (eqb (c .taken .0) 0) _ _ (λ _. accepts) (λ _. accepts))
-    (λ _. writes-refusal (omega arith) (omega arith)))
-    (λ _. writes-refusal (omega arith) (omega arith)))
+  module _ (bytes : List ℕ) (room : ℕ) where
+    abbrev BoxKeeps : Turn Cab → Type 0
+    BoxKeeps t = Keeps e (box-frame bytes room) (at-cab e t)
 
-ordered-keeps : (c : Cab) (s n : ℕ) (change : Change) → Keeps c (ordered c s n change)
-unfolding ordered ordered-here
-ordered-keeps c s n change =
-    cond-cases (Keeps c) (c .active) _ _
-    (λ _. cond-cases (Keeps c) (eqb s (c .highest .0)) _ _
-    (λ _. cond-cases (Keeps c) (leb n (c .taken .0)) _ _ (λ _. accepts)
-    (λ _. cond-cases (Keeps c) (eqb (n - c .taken .0) 1) _ _ (λ _. accepts) (λ _. writes-refusal (omega arith) (omega arith))))
-    (λ _. writes-refusal (omega arith) (omega arith)))
-    (λ _. writes-refusal (omega arith) (omega arith))
+    opened-keeps : (s : ℕ) → decode bytes ≡ some (opening s) → BoxKeeps (opened (e .cab) s)
+    unfolding opened opened-again
+    opened-keeps s read =
+        cond-cases BoxKeeps (ltb (e .cab .highest .0) s) _ _ (λ _. accepts)
+        (λ _. cond-cases BoxKeeps (e .cab .active) _ _
+        (λ _. cond-cases BoxKeeps (eqb s (e .cab .highest .0)) _ _
+        (λ _. cond-cases BoxKeeps (eqb (e .cab .taken .0) 0) _ _ (λ _. accepts) (λ _. accepts)) (λ _. open-refused read))
+        (λ _. open-refused read))
 
-not-understood : (c : Cab) → Keeps c (refused-by c 0 4)
-not-understood c = writes-refusal {number = 4} (omega arith) (omega arith)
+    ordered-keeps : (s n : ℕ) (c : Change) → decode bytes ≡ some (order s n c) → BoxKeeps (ordered (e .cab) s n c)
+    unfolding ordered ordered-here
+    ordered-keeps s n c read =
+        cond-cases BoxKeeps (e .cab .active) _ _
+        (λ _. cond-cases BoxKeeps (eqb s (e .cab .highest .0)) _ _
+        (λ own. cond-cases BoxKeeps (leb n (e .cab .taken .0)) _ _ (λ _. accepts)
+        (λ _. cond-cases BoxKeeps (eqb (n - e .cab .taken .0) 1) _ _ (λ _. accepts)
+        (λ _. order-refused (read ∙ ap (λ (t : ℕ). some (order t n c)) (eqb-true _ _ own)) (omega arith) (omega arith))))
+        (λ _. order-refused read (omega arith) (omega arith)))
+        (λ _. order-refused read (omega arith) (omega arith))
 
-received-keeps : (c : Cab) (m : Option Frame) → Keeps c (received c m)
-unfolding received
-received-keeps c none = not-understood c
-received-keeps c (some (opening s)) = opened-keeps c s
-received-keeps c (some (welcome s σ)) = not-understood c
-received-keeps c (some (order s n change)) = ordered-keeps c s n change
-received-keeps c (some (ack s k)) = not-understood c
-received-keeps c (some (refuse s r)) = not-understood c
+    received-keeps : (m : Option Frame) → decode bytes ≡ m → BoxKeeps (received (e .cab) m)
+    unfolding received
+    received-keeps none read = not-for-box (ap for-box read)
+    received-keeps (some (opening s)) read = opened-keeps s read
+    received-keeps (some (welcome s σ)) read = not-for-box (ap for-box read)
+    received-keeps (some (order s n c)) read = ordered-keeps s n c read
+    received-keeps (some (ack s k)) read = not-for-box (ap for-box read)
+    received-keeps (some (refuse s r)) read = not-for-box (ap for-box read)
 
-box-keeps : (c : Cab) (bytes : List ℕ) (room : ℕ) → Keeps c (frame-in c bytes room)
-unfolding frame-in
-box-keeps c bytes room = cond-cases (Keeps c) (ltb room frame-limit) _ _ (λ _. refuses) (λ _. received-keeps c (decode bytes))
+    box-keeps : BoxKeeps (frame-in (e .cab) bytes room)
+    unfolding frame-in
+    box-keeps = cond-cases BoxKeeps (ltb room frame-limit) _ _ (λ _. output-short) (λ _. received-keeps (decode bytes) refl)
 
--- ---- the office
+  -- ---- the office
 
-open-keeps : (o : Office) (s room : ℕ) → Keeps o (office.open-session o s room)
-unfolding office.open-session
-open-keeps o s room =
-    cond-cases (Keeps o) (eqb s 0) _ _ (λ _. refuses)
-    (λ _. cond-cases (Keeps o) (ltb room frame-limit) _ _ (λ _. refuses) (λ _. accepts))
+  abbrev OfficeKeeps : Call → Turn Office → Type 0
+  OfficeKeeps c t = Keeps e c (at-office e t)
 
-issue-keeps : (o : Office) (change : Change) (refusal : Option ℕ) → Keeps o (office.issue-unless refusal o change)
-issue-keeps o change none = accepts
-issue-keeps o change (some number) = refuses
+  open-keeps : (s room : ℕ) → OfficeKeeps (open-session s room) (office.open-session (e .office) s room)
+  unfolding office.open-session
+  open-keeps s room =
+      cond-cases (OfficeKeeps (open-session s room)) (eqb s 0) _ _ (λ _. opening-refused)
+      (λ _. cond-cases (OfficeKeeps (open-session s room)) (ltb room frame-limit) _ _ (λ _. opening-refused) (λ _. accepts))
 
-resend-keeps : (o : Office) (n room : ℕ) → Keeps o (office.resend o n room)
-unfolding office.resend
-resend-keeps o n room =
-    cond-cases (Keeps o) (office.is-live (o .stage)) _ _
-    (λ _. cond-cases (Keeps o) (ltb (o .confirmed .0) n) _ _
-    (λ _. cond-cases (Keeps o) (leb n (o .issued .0)) _ _
-    (λ _. cond-cases (Keeps o) (ltb room frame-limit) _ _ (λ _. refuses) (λ _. accepts)) (λ _. refuses)) (λ _. refuses))
-    (λ _. refuses)
+  issue-keeps : (c : Change) (room : ℕ) (refusal : Option ℕ) → OfficeKeeps (issue c room) (office.issue-unless refusal (e .office) c)
+  issue-keeps c room none = accepts
+  issue-keeps c room (some number) = issuing-refused
 
-reopen-keeps : (o : Office) (room : ℕ) → Keeps o (office.reopen o room)
-unfolding office.reopen
-reopen-keeps o room =
-    cond-cases (Keeps o) (office.is-awaiting (o .stage)) _ _
-    (λ _. cond-cases (Keeps o) (ltb room frame-limit) _ _ (λ _. refuses) (λ _. accepts)) (λ _. refuses)
+  resend-keeps : (n room : ℕ) → OfficeKeeps (resend n room) (office.resend (e .office) n room)
+  unfolding office.resend
+  resend-keeps n room =
+      let P = OfficeKeeps (resend n room) in
+      cond-cases P (office.is-live (e .office .stage)) _ _
+      (λ _. cond-cases P (ltb (e .office .confirmed .0) n) _ _
+      (λ _. cond-cases P (leb n (e .office .issued .0)) _ _
+      (λ _. cond-cases P (ltb room frame-limit) _ _ (λ _. resending-refused) (λ _. accepts)) (λ _. resending-refused)) (λ _. resending-refused))
+      (λ _. resending-refused)
 
-office-keeps : (o : Office) (m : Option Frame) → Keeps o (office.received o m)
-unfolding office.received
-office-keeps o none = refuses
-office-keeps o (some (opening s)) = refuses
-office-keeps o (some (welcome s σ)) = accepts
-office-keeps o (some (order s n change)) = refuses
-office-keeps o (some (ack s k)) = accepts
-office-keeps o (some (refuse s r)) = accepts
+  reopen-keeps : (room : ℕ) → OfficeKeeps (reopen room) (office.reopen (e .office) room)
+  unfolding office.reopen
+  reopen-keeps room =
+      cond-cases (OfficeKeeps (reopen room)) (office.is-awaiting (e .office .stage)) _ _
+      (λ _. cond-cases (OfficeKeeps (reopen room)) (ltb room frame-limit) _ _ (λ _. reopening-refused) (λ _. accepts)) (λ _. reopening-refused)
+
+  office-keeps : (bytes : List ℕ) (m : Option Frame) → OfficeKeeps (office-frame bytes) (office.received (e .office) m)
+  unfolding office.received
+  office-keeps bytes none = office-frame-refused
+  office-keeps bytes (some (opening s)) = office-frame-refused
+  office-keeps bytes (some (welcome s σ)) = accepts
+  office-keeps bytes (some (order s n c)) = office-frame-refused
+  office-keeps bytes (some (ack s k)) = accepts
+  office-keeps bytes (some (refuse s r)) = accepts
 
 -- ---- every call
-
-at-cab-keeps : (e : Ends) (t : Turn Cab) → Keeps (e .cab) t → Keeps e (at-cab e t)
-at-cab-keeps e _ accepts = accepts
-at-cab-keeps e _ refuses = refuses
-at-cab-keeps e _ (writes-refusal from to) = writes-refusal from to
-
-at-office-keeps : (e : Ends) (t : Turn Office) → Keeps (e .office) t → Keeps e (at-office e t)
-at-office-keeps e _ accepts = accepts
-at-office-keeps e _ refuses = refuses
-at-office-keeps e _ (writes-refusal from to) = writes-refusal from to
 
 pub refusals-keep : RefusalsKeep
 unfolding office.issue
 refusals-keep e (restart told) = accepts
-refusals-keep e (box-frame bytes room) = at-cab-keeps e _ (box-keeps (e .cab) bytes room)
-refusals-keep e (open-session s room) = at-office-keeps e _ (open-keeps (e .office) s room)
-refusals-keep e (issue change room) = at-office-keeps e _ (issue-keeps (e .office) change (office.issue-refusal (e .office) change room))
-refusals-keep e (resend n room) = at-office-keeps e _ (resend-keeps (e .office) n room)
-refusals-keep e (reopen room) = at-office-keeps e _ (reopen-keeps (e .office) room)
-refusals-keep e (office-frame bytes) = at-office-keeps e _ (office-keeps (e .office) (decode bytes))
+refusals-keep e (box-frame bytes room) = box-keeps e bytes room
+refusals-keep e (open-session s room) = open-keeps e s room
+refusals-keep e (issue c room) = issue-keeps e c room (office.issue-refusal (e .office) c room)
+refusals-keep e (resend n room) = resend-keeps e n room
+refusals-keep e (reopen room) = reopen-keeps e room
+refusals-keep e (office-frame bytes) = office-keeps e bytes (decode bytes)
