@@ -12,6 +12,8 @@ pub mod OfficeSafe
 pub mod Invariant
 -- settlement: what the invariant says where the office says settled
 pub mod Settlement
+-- a list of calls that demand 3 speaks of
+pub mod Tunnel
 -- demand 1 at both ends
 pub mod Refusals
 pub mod Tools

@@ -5,4 +5,5 @@ pub mod History
 pub mod Box
 pub mod Office
 pub mod Turn
+pub mod Tunnel
 pub mod Refusals

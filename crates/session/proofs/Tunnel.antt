@@ -1,0 +1,47 @@
+-- The tunnel's list of calls is allowed and ends settled: computed.
+use Prim.Native.Nat.{ℕ}
+use mathlib.Core.Path.{refl}
+use mathlib.Core.List.{List, _∷_, List·Memᴰ, List·Memᴰ·head, List·Memᴰ·tail, List·Memᴰ·not-nil}
+use native.Mathlib.Omega.{arith}
+use Rattle.packet.specs.Packet.{total, checksum, escape-byte, escape, fields, packet-of, has-escape}
+use Rattle.number.specs.Signed.{offset, magnitude, sign}
+use Rattle.registers.specs.Block.{block, from-block}
+use Rattle.registers.specs.Commands.{lookup, access, write-register, perform-offered, perform-found}
+use Rattle.bus.specs.Bus.{after-length, after-data, start, judge, feed-at, inside, after}
+use Rattle.bus.specs.Run.{run}
+use Rattle.link.specs.Encoding.{encode, change-by-tag, frame-by-tag, decode}
+use Rattle.order.specs.Apply.{apply}
+use Rattle.session.specs.Box as box
+use Rattle.session.specs.Office as office
+use Rattle.session.specs.Tunnel.{TunnelSettles}
+
+-- the last frame written, and the one before it
+last : {bytes : List ℕ} {frames : List (List ℕ)} → List·Memᴰ bytes (bytes ∷ frames)
+last = List·Memᴰ·head refl
+
+before : {bytes later : List ℕ} {frames : List (List ℕ)} → List·Memᴰ bytes (later ∷ bytes ∷ frames)
+before = List·Memᴰ·tail last
+
+-- a call that is permitted, and the rest
+call : {A B : Type 0} → A → B → A × B
+call permitted rest = (permitted, rest)
+
+pub tunnel-settles : TunnelSettles
+unfolding encode decode frame-by-tag change-by-tag block from-block offset magnitude sign box.frame-in box.received box.opened box.ordered box.ordered-here box.sent office.open-session office.issue-refusal office.issue office.resend office.welcomed office.acknowledged office.received packet-of fields escape escape-byte checksum total run after start inside feed-at judge after-length after-data perform-found perform-offered write-register lookup access apply has-escape
+tunnel-settles =
+    record {
+      allowed =
+          call (omega arith, λ _. List·Memᴰ·not-nil)
+          (call last (call last
+          (call (omega arith) (call (omega arith) (call (omega arith)
+          (call (List·Memᴰ·tail before) (call before
+          (call tt (call tt
+          (call before (call last
+          (call last (call before tt)))))))))))));
+      settled = refl;
+      same-session = refl;
+      issued = refl;
+      taken = refl;
+      office-level = refl;
+      box-level = refl;
+    }

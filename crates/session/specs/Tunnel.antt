@@ -1,0 +1,63 @@
+-- Demand 3 supposes what its list of calls keeps to. Here is such a list, the winter's tunnel as in scenarios/tunnel.script, and how it ends.
+-- It is proved in proofs/Tunnel.antt, by computing.
+use Prim.Native.Nat.{ℕ}
+use mathlib.Core.Path.{_≡_}
+use mathlib.Core.List.{List, [], _∷_}
+use mathlib.Core.Option.{some}
+use Rattle.frame.specs.Frame.{raise}
+use Rattle.link.specs.View.{frame-limit}
+use Rattle.session.specs.declared.Progress.the-variants.{Settled}
+use Rattle.session.specs.Calls.{Call, box-frame, open-session, issue, resend, office-frame, cab-session, Allowed}
+use Rattle.session.specs.Claim.{ends-after}
+use Rattle.session.specs.Office as office
+
+-- ---- the frames of session 7, byte for byte as document 01 has them
+
+abbrev pub open-bytes : List ℕ
+open-bytes = 0x10 ∷ 0x04 ∷ 0x00 ∷ 0x07 ∷ 0x00 ∷ 0x00 ∷ 0x00 ∷ []
+
+-- the settings are a fresh controller's
+abbrev pub welcome-bytes : List ℕ
+welcome-bytes =
+    0x11 ∷ 0x04 ∷ 0x00 ∷ 0x07 ∷ 0x00 ∷ 0x00 ∷ 0x00 ∷ 0x20 ∷ 0x1B ∷ 0x00
+    ∷ 0x00 ∷ 0x00 ∷ 0x01 ∷ 0x00 ∷ 0x00 ∷ 0x00 ∷ 0x00 ∷ 0x00 ∷ 0x00 ∷ 0x00 ∷ 0x00 ∷ 0x01 ∷ 0x00 ∷ 0x00 ∷ 0x01
+    ∷ 0x00 ∷ 0x00 ∷ 0x00 ∷ 0x00 ∷ 0x00 ∷ 0x00 ∷ 0x00 ∷ 0x00 ∷ 0x00 ∷ 0x00 ∷ 0x00 ∷ 0x00 ∷ []
+
+-- order n: raise by 1000
+abbrev pub order-bytes : ℕ → List ℕ
+order-bytes n = 0x12 ∷ 0x06 ∷ 0x00 ∷ 0x07 ∷ 0x00 ∷ 0x00 ∷ 0x00 ∷ n ∷ 0x00 ∷ 0x22 ∷ 0x02 ∷ 0x00 ∷ 0xE8 ∷ 0x03 ∷ []
+
+abbrev pub ack-bytes : ℕ → List ℕ
+ack-bytes k = 0x13 ∷ 0x06 ∷ 0x00 ∷ 0x07 ∷ 0x00 ∷ 0x00 ∷ 0x00 ∷ k ∷ 0x00 ∷ []
+
+-- ---- the calls
+
+-- three raises are issued; the box takes two, and its ACKs are lost; two orders are sent again; a late ACK with a smaller count comes last
+abbrev pub tunnel : List Call
+tunnel =
+    open-session 7 frame-limit
+    ∷ box-frame open-bytes frame-limit
+    ∷ office-frame welcome-bytes
+    ∷ issue (raise 1000) frame-limit
+    ∷ issue (raise 1000) frame-limit
+    ∷ issue (raise 1000) frame-limit
+    ∷ box-frame (order-bytes 1) frame-limit
+    ∷ box-frame (order-bytes 2) frame-limit
+    ∷ resend 2 frame-limit
+    ∷ resend 3 frame-limit
+    ∷ box-frame (order-bytes 2) frame-limit
+    ∷ box-frame (order-bytes 3) frame-limit
+    ∷ office-frame (ack-bytes 3)
+    ∷ office-frame (ack-bytes 2)
+    ∷ []
+
+-- it keeps to 01's List, and ends settled: three orders issued, three taken, level 3000 at both ends
+pub record TunnelSettles : Type 0 where
+  pub allowed : Allowed tunnel
+  -- what `settled-equal` of the claim asks for
+  pub settled : office.progress (ends-after tunnel .office) ≡ Settled
+  pub same-session : cab-session (ends-after tunnel .cab) ≡ some (ends-after tunnel .office .session .0)
+  pub issued : ends-after tunnel .office .issued .0 ≡ 3
+  pub taken : ends-after tunnel .cab .taken .0 ≡ 3
+  pub office-level : ends-after tunnel .office .settings .backlight ≡ 3000
+  pub box-level : ends-after tunnel .cab .controller .settings .backlight ≡ 3000
