@@ -6,7 +6,7 @@ use native.Mathlib.Omega.{arith}
 use Rattle.packet.specs.Packet.{total, checksum, escape-byte, escape, fields, packet-of, has-escape}
 use Rattle.number.specs.Signed.{offset, magnitude, sign}
 use Rattle.registers.specs.Block.{block, from-block}
-use Rattle.registers.specs.Commands.{lookup, access, write-register, perform-offered, perform-found}
+use Rattle.bus.specs.Commands.{lookup, access, write-register, perform-offered, perform-found}
 use Rattle.bus.specs.Bus.{after-length, after-data, start, judge, feed-at, inside, after}
 use Rattle.bus.specs.Run.{run}
 use Rattle.link.specs.Encoding.{encode, change-by-tag, frame-by-tag, decode}
