@@ -3,14 +3,23 @@
 use bus::Controller;
 use controller::exchange_all;
 use frame::Change;
+use frame::DATA_LIMIT;
 use libc::STDERR_FILENO;
 use libc::STDIN_FILENO;
 use libc::STDOUT_FILENO;
 
+// As many bytes from the first on as an order's data can be.
+fn first(bytes: &[u8]) -> &[u8] {
+    if DATA_LIMIT < bytes.len() {
+        return &bytes[0..DATA_LIMIT];
+    }
+    bytes
+}
+
 // On standard error, the backlight after the bytes as an order's command byte and data.
 fn tell(controller: Controller, bytes: &[u8]) {
-    let change = Change::command(number::byte(bytes, 0), number::rest(bytes, 1));
-    let settings = order::apply(controller.settings(), change);
+    let made = Change::command(number::byte(bytes, 0), first(number::rest(bytes, 1)));
+    let settings = order::apply(controller.settings(), made.change);
     io::print_decimal(STDERR_FILENO, settings.backlight as u64);
     io::write_all(STDERR_FILENO, b"\n");
 }

@@ -1,10 +1,10 @@
 // Bytes of the adjustment link to frames.
 use frame::Change;
-use frame::DATA_LIMIT;
 use frame::Frame;
 use frame::Kind;
 use frame::OrderNumber;
 use frame::SessionId;
+use frame::Verdict;
 use link::encode;
 use link::tag;
 use number::byte;
@@ -48,14 +48,16 @@ fn number_in(bytes: &[u8]) -> OrderNumber
     OrderNumber(le16(rest(bytes, 7)))
 }
 
-// Data that the struct has no room for are not allowed anyway.
+// Data that an ORDER cannot carry make no frame.
 fn command_order(session: SessionId, number: OrderNumber, command: u8, bytes: &[u8]) -> Frame
     ensures { λ r. ⌜ r ≡ frame-of (steps.held (some (frames.order (session .0) (number .0) (frames.command command (now (bytes .entry)))))) ⌝ }
 {
-    if DATA_LIMIT < bytes.len() {
-        return Frame::malformed();
+    let made = Change::command(command, bytes);
+    let verdict = made.verdict;
+    match verdict {
+        Verdict::Accepted => Frame::order(session, number, made.change),
+        Verdict::Refused(_) => Frame::malformed(),
     }
-    Frame::order(session, number, Change::command(command, bytes))
 }
 
 // The order whose change is the field of this tag.

@@ -1,5 +1,6 @@
 -- What the code's structs mean. Public contracts speak of a frame through `meaning`.
 use Prim.Native.Nat.{ℕ}
+use mathlib.Core.Bool.{cond}
 use mathlib.Core.List.{List}
 use mathlib.Core.Option.{Option, none, some}
 use lib.ListN.{length, take, replicate}
@@ -15,7 +16,7 @@ use Rattle.frame.specs.declared.frame.Kind.{Kind}
 use Rattle.frame.specs.declared.frame.Kind.the-variants.{Malformed, Opening, Welcome, Order, Ack, Refuse}
 use Rattle.frame.specs.declared.verdict.Verdict.{Verdict}
 use Rattle.frame.specs.declared.verdict.Verdict.the-variants.{Accepted, Refused}
-use Rattle.frame.specs.Frame.{data-limit, Change, command, raise, lower, Frame, opening, welcome, order, ack, refuse}
+use Rattle.frame.specs.Frame.{data-limit, Change, command, raise, lower, too-long, Frame, opening, welcome, order, ack, refuse}
 
 -- ---- from a struct to its meaning
 
@@ -64,3 +65,11 @@ frame-of (some (refuse s r)) = bare (Refuse r) s 0
 abbrev pub refusal-of : Verdict → Option ℕ
 refusal-of Accepted = none
 refusal-of (Refused r) = some (number r)
+
+-- ---- a change asked for: refused where it has more data than an ORDER can carry, and then a raise by 0
+
+abbrev pub change-refusal : Change → Option ℕ
+change-refusal c = cond (too-long c) (some 2) none
+
+abbrev pub change-made : Change → Change
+change-made c = cond (too-long c) (raise 0) c

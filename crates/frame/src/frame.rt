@@ -1,9 +1,11 @@
 // The frames by value.
+use crate::verdict::Verdict;
+use base::Refusal;
 use base::store;
 use settings::Settings;
 ghost use mathlib.Core.Path.{_≡_};
 ghost use Prim.Native.Nat.{_≤_, min};
-ghost use lib.ListN.{length, take};
+ghost use lib.ListN.{length};
 ghost use Rattle.settings.specs.Settings.{fresh};
 ghost use Rattle.frame.specs.Frame as spec;
 ghost use Rattle.frame.specs.View as view;
@@ -30,6 +32,12 @@ pub struct Change {
     pub body: [u8; DATA_LIMIT],
 }
 
+// What became of a change asked for. A refused one leaves a raise by 0.
+pub struct ChangeMade {
+    pub verdict: Verdict,
+    pub change: Change,
+}
+
 pub enum Kind {
     Malformed,
     Opening,
@@ -50,14 +58,21 @@ pub struct Frame {
 }
 
 impl Change {
-    // Data past the limit are left out: a caller that takes longer data refuses them before.
-    pub fn command(command: u8, bytes: &[u8]) -> Change
-        ensures { λ r. ⌜ r ≡ view.change-of (spec.command command (take spec.data-limit (now (bytes .entry)))) ⌝ }
+    // The command with its data; more than an ORDER can carry are refused.
+    pub fn command(command: u8, bytes: &[u8]) -> ChangeMade
+        ensures refusal { λ r. ⌜ view.refusal-of (r .verdict) ≡ view.change-refusal (spec.command command (now (bytes .entry))) ⌝ }
+        ensures change { λ r. ⌜ r .change ≡ view.change-of (view.change-made (spec.command command (now (bytes .entry)))) ⌝ }
     {
         if DATA_LIMIT < bytes.len() {
-            return Change::of_command(command, &bytes[..DATA_LIMIT]);
+            return ChangeMade {
+                verdict: Verdict::Refused(Refusal::DataTooLong),
+                change: Change::raise(0),
+            };
         }
-        Change::of_command(command, bytes)
+        ChangeMade {
+            verdict: Verdict::Accepted,
+            change: Change::of_command(command, bytes),
+        }
     }
 
     fn of_command(command: u8, bytes: &[u8]) -> Change

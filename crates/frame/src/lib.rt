@@ -4,6 +4,7 @@ mod verdict;
 
 pub use frame::Ask;
 pub use frame::Change;
+pub use frame::ChangeMade;
 pub use frame::DATA_LIMIT;
 pub use frame::Frame;
 pub use frame::Kind;

@@ -37,13 +37,14 @@ fn too_long(ask: Ask, bytes: &[u8]) -> bool
     }
 }
 
+// The change asked for. Its data are not too long, so the constructor refuses nothing.
 fn change(ask: Ask, bytes: &[u8]) -> Change
     requires { ⌜ frames.too-long (asked-as ask (now bytes)) ≡ false ⌝ }
     ensures whole { λ r. ⌜ r ≡ change-of (asked-as ask (now (bytes .entry))) ⌝ }
     ensures meaning { λ r. ⌜ asked r ≡ asked-as ask (now (bytes .entry)) ⌝ }
 {
     match ask {
-        Ask::Command(command) => Change::command(command, bytes),
+        Ask::Command(command) => Change::command(command, bytes).change,
         Ask::Raise(step) => Change::raise(step),
         Ask::Lower(step) => Change::lower(step),
     }

@@ -15,10 +15,12 @@ use crate::buffers::Page;
 use crate::frames::GIVEN;
 use crate::print;
 use frame::Change;
+use frame::ChangeMade;
 use frame::Frame;
 use frame::Kind;
 use frame::OrderNumber;
 use frame::SessionId;
+use frame::Verdict;
 use settings::Settings;
 use text::HexByte;
 
@@ -121,11 +123,19 @@ fn order_command(session: SessionId, number: OrderNumber, s: &[u8]) -> Frame {
     if read.end < rest.len() {
         return Frame::malformed();
     }
-    Frame::order(session, number, commanded(command, &body, read.len))
+    order_of(session, number, commanded(command, &body, read.len))
 }
 
-fn commanded(command: u8, body: &Page, len: usize) -> Change {
+fn commanded(command: u8, body: &Page, len: usize) -> ChangeMade {
     Change::command(command, text::part(body, 0, len))
+}
+
+fn order_of(session: SessionId, number: OrderNumber, made: ChangeMade) -> Frame {
+    let verdict = made.verdict;
+    match verdict {
+        Verdict::Accepted => Frame::order(session, number, made.change),
+        Verdict::Refused(_) => Frame::malformed(),
+    }
 }
 
 fn kind_place(kind: Kind) -> usize {

@@ -1,8 +1,7 @@
 use mathlib.Core.Path.{_≡_, _∙_}
-use Prim.Native.Nat.{_≤_}
+use mathlib.Core.Bool.{false}
 use lib.ListN.{length}
-use lib.Seq.{take-all}
-use borrow.Author.Tests.{ltb-false}
+use lib.Dec.{ltb}
 use Rattle.frame.specs.declared.frame.Change.{Change as ChangeStruct}
 use Rattle.frame.specs.Frame.{data-limit, Change}
 use Rattle.frame.proofs.Laws.{asked-change-of}
@@ -12,8 +11,8 @@ use Rattle.issuing.proofs.change.Statement.{statement}
 use Rattle.issuing.proofs.change.Tie as tie
 
 -- both clauses from the first
-change-made : (change : Change) (r : ChangeStruct) → r ≡ change-of change → (r ≡ change-of change) × (asked r ≡ change)
-change-made change r whole = (whole, rw whole (asked-change-of change))
+whole-and-meaning : (change : Change) (r : ChangeStruct) → r ≡ change-of change → (r ≡ change-of change) × (asked r ≡ change)
+whole-and-meaning change r whole = (whole, rw whole (asked-change-of change))
 
 enum-known-ask : tie.Need-enum-known-ask
 enum-known-ask c = search needs
@@ -35,20 +34,21 @@ lower-requires c κs = search needs
 
 returns : tie.Need-returns
 returns c =
-    let a = c .before .before .before .before .before .args in
-    let told = c .before .before .ask .given .1 in
-    let short : length (a .bytes .now) ≤ data-limit = ltb-false data-limit (length (a .bytes .now)) (rw told at (c .before .before .before .before .before .pre)) in
-    change-made (asked-as (a .ask) (a .bytes .now)) (c .command .result) (c .command .ensures ∙ rw (take-all data-limit (a .bytes .now) short, told))
+    let arm = c .before .before .before in
+    let start = arm .before .before .before in
+    let told = arm .ask .given .1 in
+    let short : ltb data-limit (length (start .args .bytes .now)) ≡ false = rw told at (start .pre) in
+    whole-and-meaning _ _ (rw (c .before .command .ensures .1, told) (simp short))
 
 returns-2 : tie.Need-returns-2
 returns-2 c =
     let a = c .before .before .before .before .before .args in
-    change-made (asked-as (a .ask) (a .bytes .now)) (c .raise .result) (c .raise .ensures ∙ rw (c .before .before .ask2 .given .1))
+    whole-and-meaning (asked-as (a .ask) (a .bytes .now)) (c .raise .result) (c .raise .ensures ∙ rw (c .before .before .ask2 .given .1))
 
 returns-3 : tie.Need-returns-3
 returns-3 c =
     let a = c .before .before .before .before .before .args in
-    change-made (asked-as (a .ask) (a .bytes .now)) (c .lower .result) (c .lower .ensures ∙ rw (c .before .before .ask3 .given .1))
+    whole-and-meaning (asked-as (a .ask) (a .bytes .now)) (c .lower .result) (c .lower .ensures ∙ rw (c .before .before .ask3 .given .1))
 
 pub change-spec : {M : Type 1} → statement M
 change-spec =
