@@ -1,6 +1,6 @@
 -- The history, fed the calls alone: document 01, "Demand 3's list and book", Book.
 -- With the ends it shares the types of changes, frames, settings and progress; Turn.antt's limits and kinds of turn; `decode`, `frame-limit`, `fresh` and `too-long`;
--- `apply`, which only the office has too; and the calls, their fold and `encode` in Calls.antt. The rules, their stages and the refusals' numbers are told anew.
+-- `apply`, which of the ends only the office uses; and the calls, their fold and `encode` in Calls.antt. The rules, their stages and the refusals' numbers are told anew.
 use Prim.Native.Nat.{ℕ, _+_, _-_}
 use mathlib.Core.Bool.{Bool, true, false, cond, _&&_, _||_}
 use mathlib.Core.List.{List, [], _∷_, _++_, foldl}
