@@ -11,7 +11,7 @@ use lib.ListN.{length, getD, take, drop, set, replicate, length-append, length-t
 use lib.Seq.{take-at, take-append-seam, getD-at, getD-take, take-suc-set}
 use lib.Dec.{eqb, ltb}
 use borrow.Author.Tests.{lt-ltb, le-ltb, eq-eqb, ne-eqb, lt-leb}
-use Rattle.packet.specs.Packet.{total, checksum}
+use Rattle.packet.specs.Packet.{data-most, total, checksum}
 use Rattle.packet.proofs.PacketLaws.{checksum-snoc}
 use Rattle.base.proofs.Lists.{drop-more}
 use Rattle.settings.specs.declared.settings.Settings.{Settings}
@@ -133,7 +133,7 @@ data Open : List ℕ → Phase → Collected → Type 0 where
 
 -- the body has room for any packet's data
 abbrev Sized : Collected → Type 0
-Sized p = length (p .body) ≡ 255
+Sized p = length (p .body) ≡ data-most
 
 -- no packet is open, or one whose bytes these are
 data Held : Option (List ℕ) → Phase → Collected → Type 0 where
@@ -204,7 +204,7 @@ not-idle (at-data f) = refl
 not-idle (at-checksum f) = refl
 
 -- the checksum byte: the checks, the effect and the reply
-judge-alike : (σ : Settings) → StatusFits σ → (e : Bool) (r : Outgoing) (k : ℕ) {n : ℕ} {d body : List ℕ} → Filled n d 0 body → length body ≡ 255 → (v : ℕ) →
+judge-alike : (σ : Settings) → StatusFits σ → (e : Bool) (r : Outgoing) (k : ℕ) {n : ℕ} {d body : List ℕ} → Filled n d 0 body → length body ≡ data-most → (v : ℕ) →
     Matches (closing (checked σ k n d v)) (judge (controller-of Checksum e (collecting k n (checksum (k ∷ n ∷ d)) body) r σ) v)
 unfolding judge checked
 judge-alike σ fits e r k {n} {d} {body} f room v =

@@ -9,7 +9,7 @@ use lib.Seq.{sets, length-sets, append-snoc, take-at}
 use lib.Dec.{eqb, leb}
 use borrow.Author.Tests.{eqb-true, leb-true, leb-false, eq-eqb, ne-eqb}
 use Rattle.base.proofs.Lists.{sets-front}
-use Rattle.packet.specs.Packet.{command-byte, total, checksum, escape-byte, escape, fields, packet-of, packet, has-escape}
+use Rattle.packet.specs.Packet.{data-most, command-byte, total, checksum, escape-byte, escape, fields, packet-of, packet, has-escape}
 use Rattle.packet.proofs.PacketLaws.{checksum-snoc}
 use Rattle.bus.specs.declared.Phase.{Phase}
 use Rattle.bus.specs.declared.Phase.the-variants.{Idle, Command, Length, Data, Checksum}
@@ -224,7 +224,7 @@ packet-in c k d short =
     ∙ rw (noted-append (opening c) front (escape-byte sum), data-held (c .packet .body) d short))
 
 -- the same for every command byte
-pub reads-back-command : (c : Controller) (k : ℕ) (d : List ℕ) → length d ≤ 255 → length (c .packet .body) ≡ 255 → PacketRead c k d
+pub reads-back-command : (c : Controller) (k : ℕ) (d : List ℕ) → length d ≤ data-most → length (c .packet .body) ≡ data-most → PacketRead c k d
 reads-back-command c k d short long =
     let e = packet-in c k d (omega arith) in
     record {

@@ -9,7 +9,7 @@ use lib.ListN.{length, take, drop, getD, replicate, length-append}
 use lib.Seq.{drop-cons}
 use lib.Dec.{eqb, ltb}
 use borrow.Author.Tests.{lt-ltb, ltb-false}
-use Rattle.packet.specs.Packet.{command-byte, packet-of, packet}
+use Rattle.packet.specs.Packet.{data-most, command-byte, packet-of, packet}
 use Rattle.packet.specs.Reply.{success}
 use Rattle.packet.specs.declared.writer.Access.{Access}
 use Rattle.packet.specs.declared.writer.Access.the-variants.{Write, Read}
@@ -106,7 +106,7 @@ fresh-ready = record { idle = refl; all-sent = omega arith; body-long = refl }
 record Sending (n : ℕ) (c : Controller) : Type 0 where
   idle : c .phase ≡ Idle
   few : c .reply .len ≤ c .reply .sent + n
-  body-long : length (c .packet .body) ≡ 255
+  body-long : length (c .packet .body) ≡ data-most
 
 -- a zero sends one of them, and is nothing to a controller with none
 zero-in : (c : Controller) → c .phase ≡ Idle → after c 0x00 ≡ cond (ltb (c .reply .sent) (c .reply .len)) (one-sent c) c
@@ -143,7 +143,7 @@ drained-out (suc n) c e whole =
 -- ---- the law for the layers above
 
 -- a ready controller reads a packet with the settings that it has
-read-ready : (c : Controller) (k : ℕ) (d : List ℕ) → Ready c → length d ≤ 255 →
+read-ready : (c : Controller) (k : ℕ) (d : List ℕ) → Ready c → length d ≤ data-most →
     let p = packet-of k d in
     let done = perform (noted (c .settings) p) k d in
     (run c p .settings ≡ done .settings) × (run c p .reply ≡ waiting (done .reply))
@@ -153,7 +153,7 @@ read-ready c k d ready short =
     (rw opened at (back .settings-are), rw opened at (back .reply-is))
 
 -- a command to a ready controller and zeros enough leave it ready, with the settings that the command gives
-pub settles-command : (c : Controller) (k : ℕ) (d : List ℕ) (n : ℕ) → Ready c → length d ≤ 255 →
+pub settles-command : (c : Controller) (k : ℕ) (d : List ℕ) (n : ℕ) → Ready c → length d ≤ data-most →
     let p = packet-of k d in
     let done = perform (noted (c .settings) p) k d in
     done .reply .len ≤ n → Ready (run c (p ++ replicate n 0x00)) × (run c (p ++ replicate n 0x00) .settings ≡ done .settings)

@@ -16,7 +16,7 @@ use Rattle.settings.specs.declared.settings.Settings.{Settings}
 use Rattle.settings.specs.declared.settings.Flag.{Flag}
 use Rattle.settings.specs.declared.settings.Flag.the-variants.{Incomplete, EscapeSeen, BytesIgnored, WrongChecksum}
 use Rattle.settings.specs.Settings as settings-spec
-use Rattle.packet.specs.Packet.{has-escape}
+use Rattle.packet.specs.Packet.{data-most, has-escape}
 use Rattle.bus.specs.Commands.{perform, reply-of}
 
 abbrev pub is-idle : Phase → Bool
@@ -35,7 +35,7 @@ abbrev pub place : ℕ → ℕ → ℕ
 place count left = count - left
 
 abbrev pub none : Collected
-none = record { command = 0; count = 0; sum = 0; body = replicate 255 0 }
+none = record { command = 0; count = 0; sum = 0; body = replicate data-most 0 }
 
 abbrev pub with-command : Collected → ℕ → Collected
 with-command p v = record { command = v; count = 0; sum = v; body = p .body }

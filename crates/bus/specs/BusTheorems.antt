@@ -6,7 +6,7 @@ use mathlib.Core.List.{List, [], _∷_, _++_, List·Memᴰ}
 use lib.ListN.{length, take, replicate}
 use lib.Dec.{eqb}
 use Rattle.base.specs.Bytes.{Bytes}
-use Rattle.packet.specs.Packet.{command-byte, packet-of, packet}
+use Rattle.packet.specs.Packet.{data-most, command-byte, packet-of, packet}
 use Rattle.packet.specs.declared.writer.Access.{Access}
 use Rattle.settings.specs.declared.settings.Settings.{Settings}
 use Rattle.settings.specs.declared.settings.StatusBytes.{StatusBytes}
@@ -33,12 +33,12 @@ pub record PacketRead (c : Controller) (k : ℕ) (d : List ℕ) : Type 0 where
   pub escape-shut : run c (packet-of k d) .escape ≡ false
   pub settings-are : run c (packet-of k d) .settings ≡ perform (noted (opening c) (packet-of k d)) k d .settings
   pub reply-is : run c (packet-of k d) .reply ≡ waiting (perform (noted (opening c) (packet-of k d)) k d .reply)
-  pub body-long : length (run c (packet-of k d) .packet .body) ≡ 255
+  pub body-long : length (run c (packet-of k d) .packet .body) ≡ data-most
 
 -- the writer's packet is read as the command that was written, with its data, and as no other
 abbrev pub ReadsBack : Type 0
 ReadsBack =
-    (c : Controller) (id : ℕ) (access : Access) (d : List ℕ) → length d ≤ 255 → length (c .packet .body) ≡ 255 → PacketRead c (command-byte id access) d
+    (c : Controller) (id : ℕ) (access : Access) (d : List ℕ) → length d ≤ data-most → length (c .packet .body) ≡ data-most → PacketRead c (command-byte id access) d
 
 -- over every proper beginning of the packet only "incomplete" and "escape seen" change, and exactly so
 abbrev pub NothingBefore : Type 0
@@ -55,7 +55,7 @@ ClearedBefore =
 -- a command to a ready controller and zeros enough leave it ready, with the settings that the command gives
 abbrev pub Settles : Type 0
 Settles =
-    (c : Controller) (id : ℕ) (access : Access) (d : List ℕ) (n : ℕ) → Ready c → length d ≤ 255 →
+    (c : Controller) (id : ℕ) (access : Access) (d : List ℕ) (n : ℕ) → Ready c → length d ≤ data-most →
     let p = packet id access d in
     let done = perform (noted (c .settings) p) (command-byte id access) d in
     done .reply .len ≤ n → Ready (run c (p ++ replicate n 0x00)) × (run c (p ++ replicate n 0x00) .settings ≡ done .settings)
@@ -63,14 +63,14 @@ Settles =
 -- the same of the controller as written: idle, given the packet and 0x00 until the reply is out, it is idle again
 abbrev pub SettlesAsWritten : Type 0
 SettlesAsWritten =
-    (σ : Settings) (k : ℕ) (d : List ℕ) → StatusFits σ → k < 256 → Bytes d → length d ≤ 255 →
+    (σ : Settings) (k : ℕ) (d : List ℕ) → StatusFits σ → k < 256 → Bytes d → length d ≤ data-most →
     let after = steps (idle σ) (packet-of k d) in
     steps after (replicate (length (after .unsent)) 0x00) ≡ idle (perform (noted σ (packet-of k d)) k d .settings)
 
 -- as many zeros as the reply is long bring it out
 abbrev pub Replies : Type 0
 Replies =
-    (c : Controller) (id : ℕ) (access : Access) (d : List ℕ) (n : ℕ) → Ready c → length d ≤ 255 →
+    (c : Controller) (id : ℕ) (access : Access) (d : List ℕ) (n : ℕ) → Ready c → length d ≤ data-most →
     let p = packet id access d in
     let done = perform (noted (c .settings) p) (command-byte id access) d in
     n ≡ done .reply .len → outs (run c p) (replicate n 0x00) ≡ take n (done .reply .bytes)

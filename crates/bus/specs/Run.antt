@@ -5,6 +5,7 @@ use mathlib.Core.List.{List, [], _∷_}
 use lib.ListN.{length, take}
 use Rattle.bus.specs.declared.Controller.{Controller}
 use Rattle.bus.specs.declared.Phase.the-variants.{Idle}
+use Rattle.packet.specs.Packet.{data-most}
 use Rattle.bus.specs.Bus.{exchange}
 
 -- the bytes of an input that are exchanged: as many as the output has room for
@@ -23,4 +24,4 @@ outs c (b ∷ bs) = exchange c b .out ∷ outs (exchange c b .controller) bs
 pub record Ready (c : Controller) : Type 0 where
   pub idle : c .phase ≡ Idle
   pub all-sent : c .reply .len ≤ c .reply .sent
-  pub body-long : length (c .packet .body) ≡ 255
+  pub body-long : length (c .packet .body) ≡ data-most
