@@ -1,7 +1,7 @@
 -- Status bits that document 01 does not name stay 0.
 use Prim.Native.Nat.{ℕ, _^_, _/_, _<_}
 use native.Mathlib.Nat.{zero-div, zero-mod}
-use mathlib.Core.Path.{_≡_, refl, sym, subst}
+use mathlib.Core.Path.{refl, sym, subst}
 use mathlib.Core.List.{List, [], _∷_, List·Memᴰ, List·Memᴰ·head, List·Memᴰ·tail, Memᴰ·cast}
 use lib.Dec.{eqb, lit<}
 use borrow.Author.Tests.{ne-eqb}
