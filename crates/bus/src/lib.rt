@@ -1,4 +1,4 @@
-// What the stand-in controller holds. The rules of its byte exchange are in specs/, the code that keeps them in controller.
+// What the stand-in controller holds. The rules of its byte exchange and of its commands are in specs/, the code that keeps them in controller and registers.
 mod command;
 
 pub use command::Lookup;
