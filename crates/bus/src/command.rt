@@ -1,5 +1,8 @@
 // What a command is about: its register, and what performing it gives.
 use settings::Settings;
+ghost use mathlib.Core.Path.{_≡_};
+ghost use mathlib.Core.List.{[], _∷_};
+ghost use Rattle.bus.specs.Commands as spec;
 
 pub enum Register {
     Backlight,
@@ -31,4 +34,14 @@ pub struct ReplyBytes {
 pub struct Performed {
     pub settings: Settings,
     pub reply: ReplyBytes,
+}
+
+// A reply without data.
+pub fn response(code: u8) -> ReplyBytes
+    ensures { λ r. ⌜ r ≡ spec.reply-of (code ∷ []) ⌝ }
+{
+    ReplyBytes {
+        bytes: [code, 0, 0, 0, 0, 0, 0, 0, 0, 0, 0],
+        len: 1,
+    }
 }

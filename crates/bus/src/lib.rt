@@ -6,6 +6,7 @@ pub use command::Performed;
 pub use command::REPLY_LIMIT;
 pub use command::Register;
 pub use command::ReplyBytes;
+pub use command::response;
 use settings::Settings;
 ghost use mathlib.Core.Path.{_≡_};
 ghost use Rattle.bus.specs.Bus as spec;

@@ -11,4 +11,3 @@ pub use block_bytes::BLOCK;
 pub use block_bytes::block;
 pub use block_bytes::from_block;
 pub use command::perform;
-pub use reply::response;

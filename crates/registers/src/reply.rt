@@ -3,25 +3,16 @@ use base::store;
 use bus::Performed;
 use bus::REPLY_LIMIT;
 use bus::ReplyBytes;
+use bus::response;
 use settings::Flag;
 use settings::Settings;
 ghost use mathlib.Core.Path.{_≡_};
-ghost use mathlib.Core.List.{[], _∷_};
+ghost use mathlib.Core.List.{_∷_};
 ghost use Prim.Native.Nat.{_≤_};
 ghost use lib.ListN.{length, replicate};
 ghost use Rattle.packet.specs.Reply.{success as success-of};
 ghost use Rattle.base.specs.Lent.{overwritten};
 ghost use Rattle.bus.specs.Commands as spec;
-
-// A reply without data.
-pub fn response(code: u8) -> ReplyBytes
-    ensures { λ r. ⌜ r ≡ spec.reply-of (code ∷ []) ⌝ }
-{
-    ReplyBytes {
-        bytes: [code, 0, 0, 0, 0, 0, 0, 0, 0, 0, 0],
-        len: 1,
-    }
-}
 
 // The data of a reply behind its response and its length.
 fn payload(bytes: &[u8], count: u8) -> [u8; REPLY_LIMIT]

@@ -140,7 +140,7 @@ module _ (h : History) (l : Log) (safe : Safe h l) where
       (λ e. cond-cases (BoxTurnSafe h l) (eqb (length (h .box .taken s)) 0) _ _
       (λ empty. replied none (welcome s (h .box .settings)) (valid-welcome fits (safe .box .held))
       (reply-welcome (session-below s (open-session _ s e))
-      (safe .box .followed s (open-session _ s e) ∙ ap (settings-after (h .box .opened s)) (sym (take-all 0 (h .box .taken s) (omega (arith, eqb-true)))))))
+      (safe .box .followed s (open-session _ s e) ∙ ap (settings-after (h .box .opened s)) (sym (take-all 0 (h .box .taken s) (omega (arith, eqb-true _ _ empty)))))))
       (λ _. replied-ack s fits))
       (λ _. replied-refuse s 6 fits (omega arith) (omega arith)))
 
