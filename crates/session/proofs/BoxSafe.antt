@@ -132,16 +132,26 @@ module _ (h : History) (l : Log) (safe : Safe h l) where
   session-below : (s : ℕ) → h .box .session ≡ some s → s ≤ h .box .highest
   session-below s here = subst (λ (session : Option ℕ). Option·getD session 0 ≤ h .box .highest) here (safe .box .bounded)
 
+  -- before the first order the settings are those that the session opened with
+  opened-still : (s : ℕ) → h .box .session ≡ some s → length (h .box .taken s) ≡ 0 → h .box .settings ≡ h .box .opened s
+  opened-still s here none-taken =
+      let empty : h .box .taken s ≡ [] = sym (take-all 0 (h .box .taken s) (omega arith)) in
+      safe .box .followed s here ∙ ap (settings-after (h .box .opened s)) empty
+
+  -- OPEN of the open session again
+  again-safe : (s : ℕ) → FitsSession s → h .box .session ≡ some s →
+      BoxTurnSafe h l (cond (eqb (length (h .box .taken s)) 0) (wrote (h .box) (welcome s (h .box .settings))) (wrote (h .box) (ack s (length (h .box .taken s)))))
+  again-safe s fits here =
+      cond-cases (BoxTurnSafe h l) (eqb (length (h .box .taken s)) 0) _ _
+      (λ empty. replied none (welcome s (h .box .settings)) (valid-welcome fits (safe .box .held))
+      (reply-welcome (session-below s here) (opened-still s here (eqb-true _ _ empty))))
+      (λ _. replied-ack s fits)
+
   open-safe : (s : ℕ) → FitsSession s → BoxTurnSafe h l (rule-open (h .box) s)
   unfolding rule-open
   open-safe s fits =
       cond-cases (BoxTurnSafe h l) (ltb (h .box .highest) s) _ _ (λ e. opened-safe s (ltb-true _ _ e) fits)
-      (λ _. cond-cases (BoxTurnSafe h l) (is-open (h .box .session) s) _ _
-      (λ e. cond-cases (BoxTurnSafe h l) (eqb (length (h .box .taken s)) 0) _ _
-      (λ empty. replied none (welcome s (h .box .settings)) (valid-welcome fits (safe .box .held))
-      (reply-welcome (session-below s (open-session _ s e))
-      (safe .box .followed s (open-session _ s e) ∙ ap (settings-after (h .box .opened s)) (sym (take-all 0 (h .box .taken s) (omega (arith, eqb-true _ _ empty)))))))
-      (λ _. replied-ack s fits))
+      (λ _. cond-cases (BoxTurnSafe h l) (is-open (h .box .session) s) _ _ (λ e. again-safe s fits (open-session _ s e))
       (λ _. replied-refuse s 6 fits (omega arith) (omega arith)))
 
   -- ---- the next change of the open session is taken
