@@ -3,7 +3,7 @@
 use Prim.Native.Nat.{ℕ, _/_}
 use native.Mathlib.Omega.{arith}
 use mathlib.Core.Path.{_≡_, refl, sym, _∙_}
-use mathlib.Core.Bool.{false}
+use mathlib.Core.Bool.{true, false}
 use mathlib.Core.List.{List}
 use lib.ListN.{length}
 use lib.Dec.{eqb, ltb}
@@ -19,8 +19,11 @@ use Rattle.bus.specs.declared.command.Performed.{Performed}
 use Rattle.bus.specs.declared.command.Lookup.{Lookup}
 use Rattle.bus.specs.declared.command.Lookup.the-variants.{Found, Unknown}
 use Rattle.settings.specs.declared.settings.Settings.{Settings}
-use Rattle.bus.specs.Commands.{lookup, access, offers, request-length, accepts, locked, write-register, execute, perform-offered, perform-found, perform-looked-up, perform}
-use Rattle.bus.specs.Bus.{is-idle, judge, feed-at, inside, outside, start, after}
+use Rattle.settings.specs.declared.settings.Flag.{Flag}
+use Rattle.settings.specs.declared.settings.Flag.the-variants.{Incomplete, NotAvailable, InvalidCommand, OutOfRange, EscapeSeen, WrongLength, BytesIgnored, WrongChecksum}
+use Rattle.settings.specs.Settings.{flagged, cleared}
+use Rattle.bus.specs.Commands.{lookup, access, offers, request-length, accepts, written, locked, write-register, execute, perform-offered, perform-found, perform-looked-up, perform}
+use Rattle.bus.specs.Bus.{is-idle, performed, judge, feed-at, inside, outside, start, after, exchange}
 use Rattle.bus.specs.CommandTheorems.{
   Known,
   Available,
@@ -96,6 +99,20 @@ perform-writes σ k d r passed fits = executed σ k d r Write passed ∙ rw fits
 pub perform-reads : PerformReads
 perform-reads σ k d r passed = executed σ k d r Read passed
 
+-- what flags, accepted writes and clearing keep, every command keeps
+pub command-keeps : (P : Settings → Type 0) (σ : Settings) (k : ℕ) (d : List ℕ) → P σ → P (cleared σ) → ((flag : Flag) → P (flagged σ flag)) →
+    ((r : Register) → accepts r d ≡ true → P (written σ r d)) → P (perform σ k d .settings)
+command-keeps P σ k d same none-set flag-set register-written = by-cases (perform-outcome σ k d)
+  where
+    by-cases : {end : Performed} → CommandEffect σ k d end → P (end .settings)
+    by-cases (unknown-id _) = flag-set InvalidCommand
+    by-cases (no-such-way _ _) = flag-set InvalidCommand
+    by-cases (not-available _ _ _) = flag-set NotAvailable
+    by-cases (wrong-length _ _) = flag-set WrongLength
+    by-cases (out-of-range _ _) = flag-set OutOfRange
+    by-cases (was-written {r} _ fits) = register-written r fits
+    by-cases (was-read _) = cond-cases P (eqb (k / 2) 0x33) _ _ (λ _. none-set) (λ _. same)
+
 -- ---- one exchange
 
 apart : _≡_ {A = ℕ} 0 1 → ⊥
@@ -142,3 +159,19 @@ effect-only c b =
     cond-cases L (is-idle (c .phase)) _ _
     (λ g. cond-cases L (eqb b 0x00) _ _ (λ h. zero-outside taken g (eqb-true _ _ h)) (λ h. ignored taken g (eqb-false _ _ h)))
     (λ g. inside-effect c b taken g)))
+
+-- what flags and every command keep, an exchange keeps
+pub exchange-keeps : (P : Settings → Type 0) (c : Controller) (b : ℕ) → P (c .settings) → ((flag : Flag) → P (flagged (c .settings) flag)) →
+    P (performed (c .packet) (c .settings) .settings) → P (exchange c b .controller .settings)
+exchange-keeps P c b same flag-set command-performed = by-cases (effect-only c b)
+  where
+    by-cases : {end : Settings} → Effect c b end → P end
+    by-cases (starts-packet _ _) = same
+    by-cases (cuts-packet _ _) = flag-set Incomplete
+    by-cases (dummy _ _) = same
+    by-cases (zero-outside _ _ _) = same
+    by-cases (ignored _ _ _) = flag-set BytesIgnored
+    by-cases (opens-escape _ _ _ _) = flag-set EscapeSeen
+    by-cases (collected _ _) = same
+    by-cases (wrong-checksum _ _ _) = flag-set WrongChecksum
+    by-cases (packet-performed _ _ _) = command-performed

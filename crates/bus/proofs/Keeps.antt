@@ -1,9 +1,8 @@
 -- Settings that a controller could hold stay so whatever command is performed.
-use Prim.Native.Nat.{ℕ, _/_, _<_}
+use Prim.Native.Nat.{ℕ, _<_}
 use mathlib.Core.Path.{_≡_}
 use mathlib.Core.Bool.{true}
 use mathlib.Core.List.{List}
-use lib.Dec.{eqb}
 use lib.ListN.{drop}
 use lib.IntN.{natAbs}
 use borrow.Author.Tests.{leb-true}
@@ -11,23 +10,12 @@ use Rattle.base.proofs.Tests.{cond-cases}
 use Rattle.bus.specs.declared.command.Register.{Register}
 use Rattle.bus.specs.declared.command.Register.the-variants.{Backlight, Master, Park, Splash, Strength, Heater, Bezel, Status, Pixels}
 use Rattle.settings.specs.declared.settings.Settings.{Settings}
-use Rattle.settings.specs.declared.settings.Flag.the-variants.{NotAvailable, InvalidCommand, OutOfRange, EscapeSeen, WrongLength}
+use Rattle.settings.specs.declared.settings.Flag.the-variants.{EscapeSeen}
 use Rattle.settings.specs.Range.{OffsetsHeld, AreaHeld, Held}
 use Rattle.settings.proofs.RangeLaws.{flagged-held, cleared-held}
-use Rattle.bus.specs.Commands.{accepts, offset-from, bezel-from, area-from, written, after-read}
-use Rattle.bus.specs.declared.command.Performed.{Performed}
-use Rattle.bus.specs.CommandTheorems.{
-  CommandEffect,
-  unknown-id,
-  no-such-way,
-  not-available,
-  wrong-length,
-  out-of-range,
-  was-written,
-  was-read,
-  PerformHeld,
-}
-use Rattle.bus.proofs.Effect.{perform-outcome}
+use Rattle.bus.specs.Commands.{accepts, offset-from, bezel-from, area-from, written}
+use Rattle.bus.specs.CommandTheorems.{PerformHeld}
+use Rattle.bus.proofs.Effect.{command-keeps}
 use Rattle.packet.specs.Packet.{has-escape}
 use Rattle.bus.specs.Bus.{noted}
 use Rattle.base.specs.Bytes.{Bytes}
@@ -55,9 +43,6 @@ module _ (d : List ℕ) (h : Bytes d) where
 
 -- ---- every command
 
-after-read-held : (σ : Settings) (id : ℕ) → Held σ → Held (after-read σ id)
-after-read-held σ id h = cond-cases Held (eqb id 0x33) _ _ (λ e. cleared-held σ h) (λ e. h)
-
 -- a write of data that its register accepts
 written-held : (σ : Settings) (r : Register) (d : List ℕ) → accepts r d ≡ true → Bytes d → Held σ → Held (written σ r d)
 written-held σ Backlight d fits bytes h = search le16-below
@@ -71,16 +56,7 @@ written-held σ Status d fits bytes h = h
 written-held σ Pixels d fits bytes h = search area-from-held
 
 pub perform-held : PerformHeld
-perform-held σ k d bytes h = by-cases (perform-outcome σ k d)
-  where
-    by-cases : {end : Performed} → CommandEffect σ k d end → Held (end .settings)
-    by-cases (unknown-id _) = flagged-held σ InvalidCommand h
-    by-cases (no-such-way _ _) = flagged-held σ InvalidCommand h
-    by-cases (not-available _ _ _) = flagged-held σ NotAvailable h
-    by-cases (wrong-length _ _) = flagged-held σ WrongLength h
-    by-cases (out-of-range _ _) = flagged-held σ OutOfRange h
-    by-cases (was-written {r} _ fits) = written-held σ r d fits bytes h
-    by-cases (was-read _) = after-read-held σ (k / 2) h
+perform-held σ k d bytes h = command-keeps Held σ k d h (cleared-held σ h) (λ flag. flagged-held σ flag h) (λ r fits. written-held σ r d fits bytes h)
 
 pub noted-held : (σ : Settings) (bytes : List ℕ) → Held σ → Held (noted σ bytes)
 noted-held σ bytes h = cond-cases Held (has-escape bytes) _ _ (λ e. flagged-held σ EscapeSeen h) (λ e. h)
