@@ -5,13 +5,14 @@ use mathlib.Core.List.{List}
 use lib.ListN.{length, take}
 use lib.Seq.{sets, take-all}
 use borrow.Author.Tests.{le-ltb}
+use Rattle.base.specs.declared.written.Written.{Written}
+use Rattle.base.specs.declared.written.Written.the-variants.{Length}
+use Rattle.base.specs.Writes.{Writes}
 use Rattle.base.proofs.Lists.{sets-front}
 use Rattle.packet.specs.declared.builder.Packet.{Packet}
 use Rattle.packet.specs.declared.writer.Access.{Access}
-use Rattle.packet.specs.declared.writer.Written.{Written}
-use Rattle.packet.specs.declared.writer.Written.the-variants.{Length}
 use Rattle.packet.specs.Packet.{data-most, command-byte, packet-of, packet}
-use Rattle.packet.specs.Writer.{id-most, written, built, Writes}
+use Rattle.packet.specs.Writer.{id-most, written, built}
 use Rattle.packet.specs.Steps.{fitting}
 use Rattle.packet.proofs.Building.{built-front}
 

@@ -9,5 +9,4 @@ pub use builder::Packet;
 pub use builder::build;
 pub use sum::checksum;
 pub use writer::Access;
-pub use writer::Written;
 pub use writer::write;

@@ -3,24 +3,20 @@ use crate::builder::DATA_MOST;
 use crate::builder::Packet;
 use crate::builder::build;
 use base::Refusal;
+use base::Written;
 use base::store;
 ghost use mathlib.Core.Path.{_≡_};
 ghost use Prim.Native.Nat.{_≤_};
 ghost use lib.ListN.{take};
 ghost use Rattle.packet.specs.Packet.{packet-limit, command-byte};
-ghost use Rattle.packet.specs.Writer.{id-most, written, Writes};
+ghost use Rattle.base.specs.Writes.{Writes};
+ghost use Rattle.packet.specs.Writer.{id-most, written};
 ghost use Rattle.packet.specs.Steps.{fitting};
 
 // Whether a command writes a register or reads it: document 01's "way".
 pub enum Access {
     Write,
     Read,
-}
-
-pub enum Written {
-    // The packet's length.
-    Length(usize),
-    Refused(Refusal),
 }
 
 // The highest ID.

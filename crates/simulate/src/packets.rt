@@ -3,9 +3,9 @@ use crate::asked::Lent;
 use crate::buffers::Output;
 use crate::lending;
 use crate::print;
+use base::Written;
 use packet::Access;
 use packet::PACKET_LIMIT;
-use packet::Written;
 use reply::Reply;
 use reply::ReplyRead;
 

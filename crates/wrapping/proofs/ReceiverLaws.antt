@@ -1,0 +1,56 @@
+-- Laws of a receiver: what one byte and a run of bytes do.
+use Prim.Native.Nat.{ℕ, _+_, _*_, _<_}
+use native.Mathlib.Nat.{zero-add, add-zero, add-assoc}
+use mathlib.Core.Path.{_≡_, refl, ap, _∙_}
+use mathlib.Core.Bool.{Bool, true, false, cond}
+use mathlib.Core.List.{List, [], _∷_}
+use lib.ListN.{length, getD, drop}
+use lib.Dec.{eqb, leb}
+use lib.Seq.{drop-length}
+use Rattle.base.proofs.Lists.{drop-more}
+use Rattle.wrapping.specs.declared.Event.the-variants.{Nothing}
+use Rattle.wrapping.specs.declared.Place.{Place}
+use Rattle.wrapping.specs.declared.Place.the-variants.{Tag, LengthLow, LengthHigh, Contents, Skipped}
+use Rattle.wrapping.specs.declared.Received.{Received}
+use Rattle.wrapping.specs.declared.Receiver.{Receiver}
+use Rattle.wrapping.specs.Wrapping.{outer-tag, fits}
+use Rattle.wrapping.specs.Receiver.{at-tag, at-length, at-contents, step-at, step, is-nothing, after-more, receive}
+
+-- a step takes one byte
+took-one : (test : Bool) (a b : Received) → a .took ≡ 1 → b .took ≡ 1 → cond test a b .took ≡ 1
+took-one true a b p q = p
+took-one false a b p q = q
+
+takes-one : (place : Place) (r : Receiver) (byte : ℕ) → step-at place r byte .took ≡ 1
+unfolding at-tag at-length at-contents
+takes-one Tag r byte = took-one (eqb byte outer-tag) _ _ refl refl
+takes-one LengthLow r byte = refl
+takes-one (LengthHigh low) r byte = took-one (fits (low + byte * 256)) _ _ refl refl
+takes-one (Contents n filled) r byte = took-one (leb n (filled + 1)) _ _ refl refl
+takes-one (Skipped left) r byte = refl
+
+pub step-takes : (r : Receiver) (byte : ℕ) → step r byte .took ≡ 1
+step-takes r byte = takes-one (r .place) r byte
+
+-- ---- after i bytes with which nothing came
+
+pub after-none : (t : Received) → after-more 0 t ≡ t
+after-none t = rw zero-add
+
+module _ (r : Receiver) (bytes : List ℕ) (i : ℕ) where
+  -- one more
+  pub receive-more : i < length bytes → is-nothing (step r (getD bytes i 0) .event) ≡ true →
+      after-more i (receive r (drop i bytes)) ≡ after-more (i + 1) (receive (step r (getD bytes i 0) .receiver) (drop (i + 1) bytes))
+  unfolding receive
+  receive-more within e = rw (drop-more bytes i within, e, add-assoc)
+
+  -- something comes with the next
+  pub receive-event : i < length bytes → is-nothing (step r (getD bytes i 0) .event) ≡ false →
+      after-more i (receive r (drop i bytes)) ≡ record { receiver = step r (getD bytes i 0) .receiver; took = i + 1; event = step r (getD bytes i 0) .event }
+  unfolding receive
+  receive-event within e = rw (drop-more bytes i within, e, step-takes r (getD bytes i 0))
+
+  -- none are left
+  pub receive-end : i ≡ length bytes → after-more i (receive r (drop i bytes)) ≡ record { receiver = r; took = i; event = Nothing }
+  unfolding receive
+  receive-end e = rw (e, drop-length bytes, add-zero)
