@@ -1,2 +1,5 @@
 pub mod WrappingLaws
 pub mod ReceiverLaws
+pub mod ReadingLaws
+pub mod FieldLaws
+pub mod StreamTheorems

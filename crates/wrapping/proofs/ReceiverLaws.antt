@@ -32,7 +32,21 @@ takes-one (Skipped left) r byte = refl
 pub step-takes : (r : Receiver) (byte : ℕ) → step r byte .took ≡ 1
 step-takes r byte = takes-one (r .place) r byte
 
+-- ---- a byte with which nothing came, and one with which something did
+
+module _ (r : Receiver) (byte : ℕ) (bytes : List ℕ) {t : Received} (stepped : step r byte ≡ t) where
+  pub receive-on : is-nothing (t .event) ≡ true → receive r (byte ∷ bytes) ≡ after-more 1 (receive (t .receiver) bytes)
+  unfolding receive
+  receive-on e = rw (stepped, e)
+
+  pub receive-stop : is-nothing (t .event) ≡ false → receive r (byte ∷ bytes) ≡ t
+  unfolding receive
+  receive-stop e = rw (stepped, e)
+
 -- ---- after i bytes with which nothing came
+
+pub after-twice : (m n : ℕ) (t : Received) → after-more m (after-more n t) ≡ after-more (m + n) t
+after-twice m n t = rw add-assoc
 
 pub after-none : (t : Received) → after-more 0 t ≡ t
 after-none t = rw zero-add

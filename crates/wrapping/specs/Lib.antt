@@ -1,2 +1,4 @@
 pub mod Wrapping
 pub mod Receiver
+pub mod Reading
+pub mod Theorems

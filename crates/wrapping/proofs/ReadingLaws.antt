@@ -1,0 +1,73 @@
+-- Laws of reading: a host's calls come to the bytes one by one, so that it does not matter how they are cut.
+use Prim.Native.Nat.{ℕ, zero, suc, _+_, _≤_}
+use native.Mathlib.Nat.{zero-add, add-suc, suc-add}
+use native.Mathlib.Omega.{arith}
+use mathlib.Core.Path.{_≡_, refl, sym, ap, _∙_, subst}
+use mathlib.Core.Bool.{Bool, true, false, false≢true}
+use mathlib.Core.List.{List, [], _∷_, _++_, append-assoc, flatten}
+use lib.ListN.{length, drop, length-drop}
+use Rattle.wrapping.specs.declared.Event.{Event}
+use Rattle.wrapping.specs.declared.Event.the-variants.{Nothing, Frame, Refused}
+use Rattle.wrapping.specs.declared.Received.{Received}
+use Rattle.wrapping.specs.declared.Receiver.{Receiver}
+use Rattle.wrapping.specs.Receiver.{step, is-nothing, after-more, receive}
+use Rattle.wrapping.specs.Reading.{Handed, came-with, came, Reading, earlier, read, calls, given, given-all}
+use Rattle.wrapping.specs.Theorems.{GivenReads, CutAnyhow}
+use Rattle.base.proofs.Tests.{cond-cases}
+use Rattle.wrapping.proofs.ReceiverLaws.{step-takes}
+
+earlier-twice : (xs ys : List Handed) (t : Reading) → earlier xs (earlier ys t) ≡ earlier (xs ++ ys) t
+earlier-twice xs ys t = rw append-assoc
+
+pub read-append : (r : Receiver) (xs ys : List ℕ) → read r (xs ++ ys) ≡ earlier (read r xs .handed) (read (read r xs .receiver) ys)
+read-append r [] ys = refl
+read-append r (x ∷ xs) ys = ap (earlier (came (step r x))) (read-append (step r x .receiver) xs ys) ∙ earlier-twice (came (step r x)) (read (step r x .receiver) xs .handed) _
+
+-- ---- one call
+
+nothing-came : (e : Event) (r : Receiver) → is-nothing e ≡ true → came-with e r ≡ []
+nothing-came Nothing r e = refl
+nothing-came (Frame n) r e = absurd (false≢true e)
+nothing-came (Refused why) r e = absurd (false≢true e)
+
+-- a call, and what is read behind it
+pub receive-read : (r : Receiver) (bytes : List ℕ) → earlier (came (receive r bytes)) (read (receive r bytes .receiver) (drop (receive r bytes .took) bytes)) ≡ read r bytes
+unfolding receive
+receive-read r [] = refl
+receive-read r (byte ∷ bytes) =
+    let next = step r byte .receiver in
+    let more : 1 + receive next bytes .took ≡ suc (receive next bytes .took) = omega arith in
+    cond-cases (λ (t : Received). earlier (came t) (read (t .receiver) (drop (t .took) (byte ∷ bytes))) ≡ read r (byte ∷ bytes))
+    (is-nothing (step r byte .event)) (after-more 1 (receive next bytes)) (step r byte)
+    (λ e. rw (more, nothing-came (step r byte .event) next e) (receive-read next bytes))
+    (λ _. rw (step-takes r byte))
+
+takes-some : (r : Receiver) (byte : ℕ) (bytes : List ℕ) → 1 ≤ receive r (byte ∷ bytes) .took
+unfolding receive
+takes-some r byte bytes =
+    cond-cases (λ (t : Received). 1 ≤ t .took) (is-nothing (step r byte .event)) (after-more 1 (receive (step r byte .receiver) bytes)) (step r byte)
+    (λ _. omega arith) (λ _. rw (step-takes r byte) (omega arith))
+
+-- ---- call after call
+
+calls-read : (n : ℕ) (r : Receiver) (bytes : List ℕ) → length bytes ≤ n → calls n r bytes ≡ read r bytes
+unfolding calls
+calls-read zero r [] enough = refl
+calls-read zero r (byte ∷ bytes) enough = absurd (omega arith)
+calls-read (suc n) r [] enough = refl
+calls-read (suc n) r (byte ∷ bytes) enough =
+    let t = receive r (byte ∷ bytes) in
+    let less : length (drop (t .took) (byte ∷ bytes)) ≤ n = simp length-drop (omega (arith, takes-some r byte bytes)) in
+    ap (earlier (came t)) (calls-read n (t .receiver) (drop (t .took) (byte ∷ bytes)) less) ∙ receive-read r (byte ∷ bytes)
+
+pub given-reads : GivenReads
+given-reads r piece = calls-read (length piece) r piece (omega arith)
+
+read-all : (r : Receiver) (pieces : List (List ℕ)) → given-all r pieces ≡ read r (flatten pieces)
+unfolding flatten
+read-all r [] = refl
+read-all r (piece ∷ pieces) =
+    rw (given-reads r piece, read-all (read r piece .receiver) pieces) (sym (read-append r piece (flatten pieces)))
+
+pub cut-anyhow : CutAnyhow
+cut-anyhow r pieces = read-all r pieces ∙ sym (given-reads r (flatten pieces))

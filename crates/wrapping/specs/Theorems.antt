@@ -1,0 +1,101 @@
+-- What holds of frames over a stream: document 02, Ask 1.
+use Prim.Native.Nat.{ℕ, _+_, _/_, _%_, _<_, _≤_, min}
+use mathlib.Core.Path.{_≡_}
+use mathlib.Core.Logic.{_⊎_}
+use mathlib.Core.Bool.{cond, _&&_}
+use mathlib.Core.List.{List, [], _∷_, _++_, map, flatMap, flatten, List·Memᴰ}
+use lib.ListN.{length}
+use lib.Dec.{leb}
+use Rattle.wrapping.specs.declared.Place.the-variants.{Tag}
+use Rattle.wrapping.specs.declared.Receiver.{Receiver}
+use Rattle.wrapping.specs.Wrapping.{contents-most, wrapped}
+use Rattle.wrapping.specs.Receiver.{dropped-most, receive}
+use Rattle.wrapping.specs.Reading.{Handed, frame, refused, came, read, given, given-all}
+
+-- a host's calls of `receive` on a piece come to its bytes, one by one
+abbrev pub GivenReads : Type 0
+GivenReads = (r : Receiver) (piece : List ℕ) → given r piece ≡ read r piece
+
+-- however the bytes are cut, the frames handed on and the state at the end are the same
+abbrev pub CutAnyhow : Type 0
+CutAnyhow = (r : Receiver) (pieces : List (List ℕ)) → given-all r pieces ≡ given r (flatten pieces)
+
+-- ---- from where a tag should stand
+
+-- every array of the code has that length
+pub record AtTag (r : Receiver) : Type 0 where
+  pub place : r .place ≡ Tag
+  pub long : length (r .buffer) ≡ contents-most
+
+-- the whole telling of 02, by items: a byte that is no tag, or an outer field with any contents
+pub data Item : Type 0 where
+  stray : ℕ → Item
+  field : List ℕ → Item
+
+abbrev pub field-head : ℕ → List ℕ
+field-head n = 0x01 ∷ n % 256 ∷ n / 256 ∷ []
+
+abbrev pub item-bytes : Item → List ℕ
+item-bytes (stray byte) = byte ∷ []
+item-bytes (field contents) = field-head (length contents) ++ contents
+
+-- a stray byte is not 01h, and two bytes tell the length of a field's contents
+abbrev pub Proper : Item → Type 0
+Proper (stray byte) = byte ≡ 0x01 → ⊥
+Proper (field contents) = length contents < 65536
+
+-- contents of 1 to 64 bytes are a frame, all others get refusal 4
+abbrev pub item-handed : Item → List Handed
+item-handed (stray byte) = []
+item-handed (field contents) = cond (leb 1 (length contents) && leb (length contents) 64) (frame contents ∷ []) (refused 4 ∷ [])
+
+abbrev pub item-dropped : Item → ℕ
+item-dropped (stray byte) = 1
+item-dropped (field contents) = 0
+
+abbrev pub dropped-of : List Item → ℕ
+dropped-of [] = 0
+dropped-of (item ∷ items) = item-dropped item + dropped-of items
+
+-- any row of items is handed on as told, the bytes that are no tag are counted up to the limit, and then a tag should stand again
+pub record RowRead (r : Receiver) (row : List Item) : Type 0 where
+  pub handed : given r (flatMap item-bytes row) .handed ≡ flatMap item-handed row
+  pub at-tag : AtTag (given r (flatMap item-bytes row) .receiver)
+  pub dropped : given r (flatMap item-bytes row) .receiver .dropped ≡ min (r .dropped + dropped-of row) dropped-most
+
+abbrev pub RowsRead : Type 0
+RowsRead = (r : Receiver) → AtTag r → r .dropped ≤ dropped-most → (row : List Item) → ((item : Item) → List·Memᴰ item row → Proper item) → RowRead r row
+
+-- wrapped frames of 1 to 64 bytes come out unchanged, each once and in order; nothing is refused or dropped, and then a tag should stand again
+pub record Through (r : Receiver) (frames : List (List ℕ)) : Type 0 where
+  pub handed : given r (flatMap wrapped frames) .handed ≡ map frame frames
+  pub at-tag : AtTag (given r (flatMap wrapped frames) .receiver)
+  pub dropped : given r (flatMap wrapped frames) .receiver .dropped ≡ r .dropped
+
+abbrev pub Wrappable : List ℕ → Type 0
+Wrappable f = (1 ≤ length f) × (length f ≤ 64)
+
+abbrev pub ThroughUnchanged : Type 0
+ThroughUnchanged = (r : Receiver) → AtTag r → (frames : List (List ℕ)) → ((f : List ℕ) → List·Memᴰ f frames → Wrappable f) → Through r frames
+
+-- a length that is refused skips exactly its bytes, whatever they are: the receiver is as before
+abbrev pub BadLength : ℕ → Type 0
+BadLength n = (n ≡ 0) ⊎ (64 < n)
+
+abbrev pub BadLengthSkips : Type 0
+BadLengthSkips =
+    (r : Receiver) → AtTag r → (contents : List ℕ) → BadLength (length contents) → length contents < 65536 →
+    given r (field-head (length contents) ++ contents) ≡ record { receiver = r; handed = refused 4 ∷ [] }
+
+-- ---- one call takes the bytes up to and with the one that completes a frame or a refusal, whatever follows
+
+abbrev pub FrameTaken : Type 0
+FrameTaken =
+    (r : Receiver) → AtTag r → (f rest : List ℕ) → Wrappable f →
+    let t = receive r (wrapped f ++ rest) in (t .took ≡ length (wrapped f)) × (came t ≡ frame f ∷ [])
+
+-- a bad length is refused at once
+abbrev pub LengthRefused : Type 0
+LengthRefused =
+    (r : Receiver) → AtTag r → (n : ℕ) (rest : List ℕ) → BadLength n → n < 65536 →
+    let t = receive r (field-head n ++ rest) in (t .took ≡ length (field-head n)) × (came t ≡ refused 4 ∷ [])
