@@ -41,6 +41,24 @@ same-taken (active {highest = highest} {taken = taken} _) s e = ap (λ (t : ℕ)
 
 -- ---- along a list
 
+-- one call: both answer alike, and are alike and safe afterwards
+pub record FollowedOne (e : Ends) (h : History) (l : Log) (c : Call) : Type 0 where
+  pub same-answer : answer-of (ends-rules e c) ≡ answer-of (rules h c)
+  pub alike : EndsAlike (ends-rules e c .state) (rules h c .state)
+  pub safe : Safe (rules h c .state) (logged l c (answer-of (ends-rules e c)) (cab-session (ends-rules e c .state .cab)))
+
+pub follows-one : (c : Call) (e : Ends) (h : History) (l : Log) → EndsAlike e h → Safe h l → Permitted l c (answer-of (ends-rules e c)) → FollowedOne e h l c
+follows-one c e h l a safe permitted =
+    let both = call-alike e h a l safe c permitted in
+    let answered = same-answer EndsAlike (ends-rules e c) (rules h c) both in
+    let logs : logged l c (answer-of (rules h c)) (rules h c .state .box .session) ≡ logged l c (answer-of (ends-rules e c)) (cab-session (ends-rules e c .state .cab)) =
+    λ i. logged l c (sym answered i) (sym (same-session (both .states .cab)) i) in
+    record {
+      same-answer = answered;
+      alike = both .states;
+      safe = subst (Safe (rules h c .state)) logs (safe-step h l safe c (subst (Permitted l c) answered permitted));
+    }
+
 record Followed (e : Ends) (h : History) (cs : List Call) : Type 0 where
   same-answers : answers ends-rules e cs ≡ answers rules h cs
   alike : EndsAlike (state-after ends-rules e cs) (state-after rules h cs)
@@ -50,16 +68,10 @@ record Followed (e : Ends) (h : History) (cs : List Call) : Type 0 where
 follows : (cs : List Call) (e : Ends) (h : History) (l : Log) → EndsAlike e h → Safe h l → AllowedFrom e l cs → Followed e h cs
 follows [] e h l a safe allowed = record { same-answers = refl; alike = a; log = l; safe = safe }
 follows (c ∷ cs) e h l a safe (permitted, allowed) =
-    let both = call-alike e h a l safe c permitted in
-    let answered = same-answer EndsAlike (ends-rules e c) (rules h c) both in
-    let session = same-session (both .states .cab) in
-    let logs : logged l c (answer-of (ends-rules e c)) (cab-session (ends-rules e c .state .cab)) ≡ logged l c (answer-of (rules h c)) (rules h c .state .box .session) =
-    λ i. logged l c (answered i) (session i) in
-    let safe-after = safe-step h l safe c (subst (Permitted l c) answered permitted) in
-    let rest = follows cs (ends-rules e c .state) (rules h c .state) _ (both .states) safe-after
-    (subst (λ (k : Log). AllowedFrom (ends-rules e c .state) k cs) logs allowed) in
+    let one = follows-one c e h l a safe permitted in
+    let rest = follows cs (ends-rules e c .state) (rules h c .state) _ (one .alike) (one .safe) allowed in
     record {
-      same-answers = λ i. answered i ∷ rest .same-answers i;
+      same-answers = λ i. one .same-answer i ∷ rest .same-answers i;
       alike = rest .alike;
       log = rest .log;
       safe = rest .safe;

@@ -95,6 +95,7 @@ module _ {A : Type 0} where
 -- bytes that decode to a valid frame of which P holds
 pub record Decodes (P : Frame → Type 0) (bytes : List ℕ) : Type 0 where
   pub frame : Frame
+  pub encoded : bytes ≡ encode frame
   pub decoded : decode bytes ≡ some frame
   pub valid : Valid frame
   pub holds : P frame
@@ -106,12 +107,12 @@ module _ (P : Frame → Type 0) (frames : List (List ℕ)) (each : EachDecodes P
   pub decodes-weaker : (Q : Frame → Type 0) → ((f : Frame) → P f → Q f) → EachDecodes Q frames
   decodes-weaker Q weaker bytes m =
       let written = each bytes m in
-      record { frame = written .frame; decoded = written .decoded; valid = written .valid; holds = weaker (written .frame) (written .holds) }
+      record { frame = written .frame; encoded = written .encoded; decoded = written .decoded; valid = written .valid; holds = weaker (written .frame) (written .holds) }
 
   -- one more frame is written
   pub decodes-one-more : (f : Frame) → Valid f → P f → EachDecodes P (encode f ∷ frames)
   decodes-one-more f valid holds bytes (List·Memᴰ·head e) =
-      record { frame = f; decoded = ap decode e ∙ decode-encode f valid; valid = valid; holds = holds }
+      record { frame = f; encoded = e; decoded = ap decode e ∙ decode-encode f valid; valid = valid; holds = holds }
   decodes-one-more f valid holds bytes (List·Memᴰ·tail m) = each bytes m
 
 -- ---- a call's answer b, tested as `!b`

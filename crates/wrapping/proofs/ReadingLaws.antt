@@ -1,20 +1,24 @@
 -- Laws of reading: a host's calls come to the bytes one by one, so that it does not matter how they are cut.
-use Prim.Native.Nat.{ℕ, zero, suc, _+_, _≤_}
+use Prim.Native.Nat.{ℕ, zero, suc, _+_, _*_, _≤_}
 use native.Mathlib.Nat.{zero-add, add-suc, suc-add}
 use native.Mathlib.Omega.{arith}
 use mathlib.Core.Path.{_≡_, refl, sym, ap, _∙_, subst}
 use mathlib.Core.Bool.{Bool, true, false, false≢true}
+use lib.Dec.{eqb, leb, ltb}
 use mathlib.Core.List.{List, [], _∷_, _++_, append-assoc, flatten}
 use lib.ListN.{length, drop, length-drop}
 use Rattle.wrapping.specs.declared.Event.{Event}
 use Rattle.wrapping.specs.declared.Event.the-variants.{Nothing, Frame, Refused}
 use Rattle.wrapping.specs.declared.Received.{Received}
 use Rattle.wrapping.specs.declared.Receiver.{Receiver}
-use Rattle.wrapping.specs.Receiver.{step, is-nothing, after-more, receive}
+use Rattle.wrapping.specs.declared.Place.{Place}
+use Rattle.wrapping.specs.declared.Place.the-variants.{Tag, LengthLow, LengthHigh, Contents, Skipped}
+use Rattle.wrapping.specs.Wrapping.{outer-tag, fits}
+use Rattle.wrapping.specs.Receiver.{dropped-most, counted, at-tag, at-length, at-contents, step-at, step, is-nothing, after-more, receive}
 use Rattle.wrapping.specs.Reading.{Handed, came-with, came, Reading, earlier, read, calls, given, given-all}
 use Rattle.wrapping.specs.Theorems.{GivenReads, CutAnyhow}
 use Rattle.base.proofs.Tests.{cond-cases}
-use Rattle.wrapping.proofs.ReceiverLaws.{step-takes}
+use Rattle.wrapping.proofs.ReceiverLaws.{either, step-takes}
 
 earlier-twice : (xs ys : List Handed) (t : Reading) → earlier xs (earlier ys t) ≡ earlier (xs ++ ys) t
 earlier-twice xs ys t = rw append-assoc
@@ -22,6 +26,21 @@ earlier-twice xs ys t = rw append-assoc
 pub read-append : (r : Receiver) (xs ys : List ℕ) → read r (xs ++ ys) ≡ earlier (read r xs .handed) (read (read r xs .receiver) ys)
 read-append r [] ys = refl
 read-append r (x ∷ xs) ys = ap (earlier (came (step r x))) (read-append (step r x .receiver) xs ys) ∙ earlier-twice (came (step r x)) (read (step r x .receiver) xs .handed) _
+
+-- the count of dropped bytes never falls
+counts-on : (place : Place) (r : Receiver) (byte : ℕ) → r .dropped ≤ step-at place r byte .receiver .dropped
+unfolding counted at-tag at-length at-contents
+counts-on Tag r byte =
+    either (λ (t : Received). r .dropped ≤ t .receiver .dropped) (eqb byte outer-tag) _ _ (omega arith)
+    (cond-cases (λ (n : ℕ). r .dropped ≤ n) (ltb (r .dropped) dropped-most) (r .dropped + 1) (r .dropped) (λ _. omega arith) (λ _. omega arith))
+counts-on LengthLow r byte = omega arith
+counts-on (LengthHigh low) r byte = either (λ (t : Received). r .dropped ≤ t .receiver .dropped) (fits (low + byte * 256)) _ _ (omega arith) (omega arith)
+counts-on (Contents n filled) r byte = either (λ (t : Received). r .dropped ≤ t .receiver .dropped) (leb n (filled + 1)) _ _ (omega arith) (omega arith)
+counts-on (Skipped left) r byte = omega arith
+
+pub dropped-grows : (r : Receiver) (bytes : List ℕ) → r .dropped ≤ read r bytes .receiver .dropped
+dropped-grows r [] = omega arith
+dropped-grows r (byte ∷ bytes) = omega (arith, counts-on (r .place) r byte, dropped-grows (step r byte .receiver) bytes)
 
 -- ---- one call
 

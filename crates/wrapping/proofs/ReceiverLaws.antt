@@ -16,17 +16,18 @@ use Rattle.wrapping.specs.declared.Receiver.{Receiver}
 use Rattle.wrapping.specs.Wrapping.{outer-tag, fits}
 use Rattle.wrapping.specs.Receiver.{at-tag, at-length, at-contents, step-at, step, is-nothing, after-more, receive}
 
--- a step takes one byte
-took-one : (test : Bool) (a b : Received) → a .took ≡ 1 → b .took ≡ 1 → cond test a b .took ≡ 1
-took-one true a b p q = p
-took-one false a b p q = q
+-- what holds of both outcomes of a test
+pub either : (P : Received → Type 0) (test : Bool) (a b : Received) → P a → P b → P (cond test a b)
+either P true a b p q = p
+either P false a b p q = q
 
+-- a step takes one byte
 takes-one : (place : Place) (r : Receiver) (byte : ℕ) → step-at place r byte .took ≡ 1
 unfolding at-tag at-length at-contents
-takes-one Tag r byte = took-one (eqb byte outer-tag) _ _ refl refl
+takes-one Tag r byte = either (λ (t : Received). t .took ≡ 1) (eqb byte outer-tag) _ _ refl refl
 takes-one LengthLow r byte = refl
-takes-one (LengthHigh low) r byte = took-one (fits (low + byte * 256)) _ _ refl refl
-takes-one (Contents n filled) r byte = took-one (leb n (filled + 1)) _ _ refl refl
+takes-one (LengthHigh low) r byte = either (λ (t : Received). t .took ≡ 1) (fits (low + byte * 256)) _ _ refl refl
+takes-one (Contents n filled) r byte = either (λ (t : Received). t .took ≡ 1) (leb n (filled + 1)) _ _ refl refl
 takes-one (Skipped left) r byte = refl
 
 pub step-takes : (r : Receiver) (byte : ℕ) → step r byte .took ≡ 1

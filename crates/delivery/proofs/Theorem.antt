@@ -1,0 +1,135 @@
+-- Demand 3 from whole frames delivered by the receivers, proved: what is supposed of the bytes makes every frame that a receiver hands on one that the other end
+-- wrote, so that the calls delivered are a list of 01's.
+use Prim.Native.Nat.{ℕ, zero, suc, _≤_}
+use native.Mathlib.Omega.{arith}
+use mathlib.Core.Path.{_≡_, refl, subst}
+use mathlib.Core.List.{List, [], _∷_, _++_, map, List·Memᴰ, List·Memᴰ·head, List·Memᴰ·tail, Memᴰ·append-right}
+use lib.ListN.{length, take}
+use Rattle.frame.specs.Frame.{Frame, opening, welcome, order, ack, refuse}
+use Rattle.link.specs.Encoding.{encode}
+use Rattle.link.proofs.FrameTheorems.{encode-short}
+use Rattle.wrapping.specs.Reading.{given}
+use Rattle.wrapping.specs.Theorems.{Wrappable}
+use Rattle.session.specs.declared.Ends.{Ends}
+use Rattle.session.specs.Calls.{Call, restart, box-frame, open-session, issue, resend, reopen, office-frame, state-after, first-ends, ends-rules, Log, first-log, AllowedFrom}
+use Rattle.session.specs.History.{History, first-history, rules}
+use Rattle.session.proofs.Invariant.{Safe, safe-first}
+use Rattle.session.proofs.Refinement.{EndsAlike, first-ends-alike}
+use Rattle.session.proofs.Theorem.{follows-one, demand-3}
+use Rattle.session.proofs.Tools.{Decodes}
+use Rattle.delivery.specs.Calls.{ByteCall, whole, box-bytes, office-bytes, Incoming, Arrivals, first-arrivals, with-piece, arrivals-with, arrivals-after, frames, delivered-by, delivered-from, delivered, Begins, SupposedOf, log-after, SupposedFrom, Supposed}
+use Rattle.delivery.specs.Claim.{Demand3Delivered}
+use Rattle.delivery.proofs.Arrivals.{frames-among, reads-piece, Begun, begun-start, frames-each, unharmed}
+
+-- ---- every frame that an end writes can be wrapped
+
+encode-some : (f : Frame) → 1 ≤ length (encode f)
+unfolding encode
+encode-some (opening s) = omega arith
+encode-some (welcome s σ) = omega arith
+encode-some (order s n c) = omega arith
+encode-some (ack s k) = omega arith
+encode-some (refuse s r) = omega arith
+
+wrappable : {P : Frame → Type 0} {bytes : List ℕ} → Decodes P bytes → Wrappable bytes
+wrappable d =
+    let short = encode-short (d .frame) (d .valid) in
+    let some-bytes = encode-some (d .frame) in
+    (rw (d .encoded) some-bytes, rw (d .encoded) (omega arith))
+
+-- ---- lists of whole calls
+
+allowed-append : (xs ys : List Call) (e : Ends) (l : Log) → AllowedFrom e l xs → AllowedFrom (state-after ends-rules e xs) (log-after e l xs) ys → AllowedFrom e l (xs ++ ys)
+allowed-append [] ys e l first second = second
+allowed-append (x ∷ xs) ys e l (permitted, first) second = (permitted, allowed-append xs ys (ends-rules e x .state) _ first second)
+
+box-frames-allowed : (fs : List (List ℕ)) (room : ℕ) (e : Ends) (l : Log) → ((f : List ℕ) → List·Memᴰ f fs → List·Memᴰ f (l .from-office)) → AllowedFrom e l (map (λ f. box-frame f room) fs)
+box-frames-allowed [] room e l each = tt
+box-frames-allowed (f ∷ fs) room e l each =
+    (each f (List·Memᴰ·head refl), box-frames-allowed fs room (ends-rules e (box-frame f room) .state) _ (λ g m. each g (List·Memᴰ·tail m)))
+
+office-frames-allowed : (fs : List (List ℕ)) (e : Ends) (l : Log) → ((f : List ℕ) → List·Memᴰ f fs → List·Memᴰ f (l .from-box)) → AllowedFrom e l (map office-frame fs)
+office-frames-allowed [] e l each = tt
+office-frames-allowed (f ∷ fs) e l each =
+    (each f (List·Memᴰ·head refl), office-frames-allowed fs (ends-rules e (office-frame f) .state) _ (λ g m. each g (List·Memᴰ·tail m)))
+
+record Followed (e : Ends) (h : History) (l : Log) (cs : List Call) : Type 0 where
+  alike : EndsAlike (state-after ends-rules e cs) (state-after rules h cs)
+  safe : Safe (state-after rules h cs) (log-after e l cs)
+
+follows : (cs : List Call) (e : Ends) (h : History) (l : Log) → EndsAlike e h → Safe h l → AllowedFrom e l cs → Followed e h l cs
+follows [] e h l alike safe allowed = record { alike = alike; safe = safe }
+follows (c ∷ cs) e h l alike safe (permitted, allowed) =
+    let one = follows-one c e h l alike safe permitted in
+    let rest = follows cs (ends-rules e c .state) (rules h c .state) _ (one .alike) (one .safe) allowed in
+    record { alike = rest .alike; safe = rest .safe }
+
+-- ---- a piece at an end
+
+module _ (i : Incoming) (piece : List ℕ) (written : List (List ℕ)) (fits : (f : List ℕ) → List·Memᴰ f written → Wrappable f) (b : Begun i) (g : Begins (i .given ++ piece) written) where
+  abbrev begun-piece : Begun (with-piece i piece)
+  begun-piece = record { reads = reads-piece i piece (b .reads); row = g .row; rest = g .rest; joined = g .joined; each = λ f m. fits f (g .each f m) }
+
+  piece-written : (f : List ℕ) → List·Memᴰ f (frames (given (i .receiver) piece .handed)) → List·Memᴰ f written
+  piece-written f m = g .each f (frames-each (with-piece i piece) begun-piece f (Memᴰ·append-right (i .handed) (frames-among f _ m)))
+
+-- ---- a call of a list, and the whole list
+
+record Arrived (e : Ends) (l : Log) (calls : List Call) (a : Arrivals) : Type 0 where
+  allowed : AllowedFrom e l calls
+  box : Begun (a .box)
+  office : Begun (a .office)
+
+module _ (e : Ends) (h : History) (l : Log) (safe : Safe h l) (a : Arrivals) (box : Begun (a .box)) (office : Begun (a .office)) where
+  arrives : (c : ByteCall) → SupposedOf e l a c → Arrived e l (delivered-by a c) (arrivals-with a c)
+  arrives (whole (restart told)) permitted = record { allowed = (permitted, tt); box = begun-start; office = office }
+  arrives (whole (box-frame bytes room)) permitted = record { allowed = (permitted, tt); box = box; office = office }
+  arrives (whole (open-session s room)) permitted = record { allowed = (permitted, tt); box = box; office = office }
+  arrives (whole (issue c room)) permitted = record { allowed = (permitted, tt); box = box; office = office }
+  arrives (whole (resend n room)) permitted = record { allowed = (permitted, tt); box = box; office = office }
+  arrives (whole (reopen room)) permitted = record { allowed = (permitted, tt); box = box; office = office }
+  arrives (whole (office-frame bytes)) permitted = record { allowed = (permitted, tt); box = box; office = office }
+  arrives (box-bytes piece room) begins =
+      let fits : (f : List ℕ) → List·Memᴰ f (l .from-office) → Wrappable f = λ f m. wrappable (safe .requests f m) in
+      record {
+        allowed = box-frames-allowed _ room e l (piece-written (a .box) piece (l .from-office) fits box begins);
+        box = begun-piece (a .box) piece (l .from-office) fits box begins;
+        office = office;
+      }
+  arrives (office-bytes piece) begins =
+      let fits : (f : List ℕ) → List·Memᴰ f (l .from-box) → Wrappable f = λ f m. wrappable (safe .replies f m) in
+      record {
+        allowed = office-frames-allowed _ e l (piece-written (a .office) piece (l .from-box) fits office begins);
+        box = box;
+        office = begun-piece (a .office) piece (l .from-box) fits office begins;
+      }
+
+all-arrive : (cs : List ByteCall) (e : Ends) (h : History) (l : Log) (a : Arrivals) → EndsAlike e h → Safe h l → Begun (a .box) → Begun (a .office) → SupposedFrom e l a cs →
+    Arrived e l (delivered-from a cs) (arrivals-after a cs)
+all-arrive [] e h l a alike safe box office supposed = record { allowed = tt; box = box; office = office }
+all-arrive (c ∷ cs) e h l a alike safe box office (supposed, later) =
+    let one = arrives e h l safe a box office c supposed in
+    let after = follows (delivered-by a c) e h l alike safe (one .allowed) in
+    let rest = all-arrive cs _ _ _ (arrivals-with a c) (after .alike) (after .safe) (one .box) (one .office) later in
+    record { allowed = allowed-append (delivered-by a c) _ e l (one .allowed) (rest .allowed); box = rest .box; office = rest .office }
+
+-- a beginning of a list keeps to what the list keeps to
+supposed-take : (n : ℕ) (cs : List ByteCall) (e : Ends) (l : Log) (a : Arrivals) → SupposedFrom e l a cs → SupposedFrom e l a (take n cs)
+supposed-take zero cs e l a supposed = tt
+supposed-take (suc n) [] e l a supposed = tt
+supposed-take (suc n) (c ∷ cs) e l a (supposed, later) = (supposed, supposed-take n cs _ _ (arrivals-with a c) later)
+
+arrive-first : (cs : List ByteCall) → Supposed cs → Arrived first-ends first-log (delivered cs) (arrivals-after first-arrivals cs)
+arrive-first cs = all-arrive cs first-ends first-history first-log first-arrivals first-ends-alike safe-first begun-start begun-start
+
+pub demand-3-delivered : Demand3Delivered
+demand-3-delivered cs supposed =
+    let all = arrive-first cs supposed in
+    let part : (n : ℕ) → Arrived first-ends first-log (delivered (take n cs)) (arrivals-after first-arrivals (take n cs)) =
+    λ n. arrive-first (take n cs) (supposed-take n cs first-ends first-log first-arrivals supposed) in
+    record {
+      allowed = all .allowed;
+      claim = demand-3 _ (all .allowed);
+      at-box = λ n. unharmed _ (part n .box);
+      at-office = λ n. unharmed _ (part n .office);
+    }
