@@ -1,6 +1,7 @@
-//! A second reading of document 01: controller, packet writer, reply reader,
-//! cab box, office end, and the script interpreter that drives them; beside it
-//! the controller once more, written for speed, and what the programs share.
+//! A second reading of documents 01 and 02: controller, packet writer, reply reader,
+//! cab box, office end, the stream between them, and the script interpreter that
+//! drives them; beside it the controller once more, written for speed, and what the
+//! programs share.
 
 #![forbid(unsafe_code)]
 
@@ -15,4 +16,5 @@ pub mod refusal;
 pub mod rng;
 pub mod script;
 pub mod settings;
+pub mod stream;
 pub mod traffic;

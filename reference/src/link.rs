@@ -107,7 +107,7 @@ impl Frame {
     }
 }
 
-fn field(tag: u8, contents: &[u8]) -> Vec<u8> {
+pub(crate) fn field(tag: u8, contents: &[u8]) -> Vec<u8> {
     let [low, high] = (contents.len() as u16).to_le_bytes();
     [&[tag, low, high], contents].concat()
 }

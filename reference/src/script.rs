@@ -4,6 +4,7 @@ mod answer;
 mod describe;
 mod log;
 mod parse;
+mod receive;
 mod show;
 
 use crate::cab::{Cab, Refused};
@@ -11,9 +12,10 @@ use crate::controller::Controller;
 use crate::office::Office;
 use crate::packet::{LONGEST_PACKET, read_reply, write_packet};
 use crate::refusal::Refusal;
+use crate::stream::{Receiver, wrap};
 use parse::{Call, parse};
 
-pub use answer::{Answer, Hex};
+pub use answer::{Answer, Heard, Hex};
 pub use log::Log;
 pub use parse::ParseError;
 
@@ -22,6 +24,9 @@ pub struct Simulation {
     cab: Cab,
     office: Office,
     bench: Controller,
+    bench_receiver: Receiver,
+    box_receiver: Receiver,
+    office_receiver: Receiver,
     from_cab: Log,
     from_office: Log,
     highest_opened: u32,
@@ -41,6 +46,9 @@ impl Simulation {
             cab: Cab::restarted(0),
             office: Office::NeverOpened,
             bench: Controller::fresh(),
+            bench_receiver: Receiver::new(),
+            box_receiver: Receiver::new(),
+            office_receiver: Receiver::new(),
             from_cab: Log::default(),
             from_office: Log::default(),
             highest_opened: 0,
@@ -59,6 +67,18 @@ impl Simulation {
 
     pub fn bench(&self) -> &Controller {
         &self.bench
+    }
+
+    pub fn bench_receiver(&self) -> &Receiver {
+        &self.bench_receiver
+    }
+
+    pub fn box_receiver(&self) -> &Receiver {
+        &self.box_receiver
+    }
+
+    pub fn office_receiver(&self) -> &Receiver {
+        &self.office_receiver
     }
 
     pub fn from_cab(&self) -> &Log {
@@ -90,6 +110,7 @@ impl Simulation {
             }
             Call::Restart(told) => {
                 self.cab = Cab::restarted(told.unwrap_or(self.highest_opened));
+                self.box_receiver = Receiver::new();
                 Answer::Ok
             }
             Call::Open(session) => {
@@ -109,10 +130,7 @@ impl Simulation {
                 self.office_wrote(result)
             }
             Call::ToBox(frame) => self.frame_to_box(&frame),
-            Call::ToOffice(frame) => match self.office.frame_in(&frame) {
-                Ok(()) => Answer::Ok,
-                Err(refusal) => Answer::Refused(refusal),
-            },
+            Call::ToOffice(frame) => self.frame_to_office(&frame),
             Call::Bus(bytes) => {
                 Answer::Bus(bytes.into_iter().map(|byte| self.bench.exchange(byte)).collect())
             }
@@ -124,6 +142,13 @@ impl Simulation {
                 Ok(reply) => Answer::Reply(reply),
                 Err(refusal) => Answer::Refused(refusal),
             },
+            Call::Wrap { room, frame } => match wrap(&frame, room) {
+                Ok(wrapped) => Answer::Wrapped(wrapped),
+                Err(refusal) => Answer::Refused(refusal),
+            },
+            Call::Stream(whose, bytes) => self.stream(whose, &bytes),
+            Call::Pieces(whose, pieces) => self.pieces(whose, &pieces),
+            Call::Dropped => Answer::Dropped(self.bench_receiver.dropped()),
             Call::Show => Answer::State([show::cab(&self.cab), show::office(&self.office)]),
             Call::Describe => Answer::State([describe::cab(&self.cab), describe::office(&self.office)]),
         }
@@ -148,6 +173,13 @@ impl Simulation {
                 refusal,
                 frame: Some(frame),
             }) => Answer::RefusedFrame(refusal, frame),
+        }
+    }
+
+    fn frame_to_office(&mut self, frame: &[u8]) -> Answer {
+        match self.office.frame_in(frame) {
+            Ok(()) => Answer::Ok,
+            Err(refusal) => Answer::Refused(refusal),
         }
     }
 

@@ -1,5 +1,5 @@
 //! The fixed examples of document 01 and the built ones of DLPU057A section 4,
-//! with the bytes printed there.
+//! with the bytes printed there; and document 02's stream.
 
 mod common;
 
@@ -11,6 +11,7 @@ use reference::office::{Office, Word};
 use reference::packet::{Way, read_reply, write_packet};
 use reference::refusal::Refusal;
 use reference::settings::{Heater, Settings};
+use reference::stream::{Came, Receiver, Taken, wrap};
 
 /// Sends the bytes, then 00: the reply comes at once, and nothing after it.
 fn answers(controller: &mut Controller, bytes: &str, reply: &str) {
@@ -324,4 +325,166 @@ fn settings_that_no_controller_holds() {
         "minus 0, or another sign"
     );
     assert!((23..27).all(|place| with(place, 0xFF)));
+}
+
+#[test]
+fn wrapped_frames() {
+    for (frame, wrapped) in [
+        ("AA", "01 01 00 AA"),
+        ("10 04 00 03 00 00 00", "01 07 00 10 04 00 03 00 00 00"),
+        (
+            "13 06 00 03 00 00 00 01 00",
+            "01 09 00 13 06 00 03 00 00 00 01 00",
+        ),
+        (
+            "12 06 00 03 00 00 00 01 00 22 02 00 E8 03",
+            "01 0E 00 12 06 00 03 00 00 00 01 00 22 02 00 E8 03",
+        ),
+    ] {
+        let (frame, wrapped) = (hex(frame), hex(wrapped));
+        assert_eq!(wrap(&frame, wrapped.len() - 1), Err(Refusal::ShortOutput));
+        assert_eq!(wrap(&frame, wrapped.len()), Ok(wrapped.clone()));
+        assert_eq!(wrap(&frame, 128), Ok(wrapped));
+    }
+    let longest = [hex("01 40 00"), vec![0x01; 64]].concat();
+    assert_eq!(wrap(&[0x01; 64], 67), Ok(longest));
+    assert_eq!(wrap(&[0x01; 64], 66), Err(Refusal::ShortOutput));
+    for room in [0, 2, 3, 67, 68, 128] {
+        assert_eq!(wrap(&[], room), Err(Refusal::TooMuchData));
+        assert_eq!(wrap(&[0x01; 65], room), Err(Refusal::TooMuchData));
+    }
+}
+
+/// All that comes, in calls that are repeated until the bytes are taken.
+fn received(receiver: &mut Receiver, mut bytes: &[u8]) -> Vec<Came> {
+    let mut all = Vec::new();
+    while !bytes.is_empty() {
+        let taken = receiver.take(bytes);
+        assert!((1..=bytes.len()).contains(&taken.count));
+        assert!(taken.came.is_some() || taken.count == bytes.len());
+        bytes = &bytes[taken.count..];
+        all.extend(taken.came);
+    }
+    all
+}
+
+fn took(count: usize, came: Option<Came>) -> Taken {
+    Taken { count, came }
+}
+
+fn refused() -> Option<Came> {
+    Some(Came::Refused(Refusal::NotWellFormed))
+}
+
+fn frame(text: &str) -> Option<Came> {
+    Some(Came::Frame(hex(text)))
+}
+
+#[test]
+fn a_call_ends_with_a_frame_or_a_refusal() {
+    let mut receiver = Receiver::new();
+    assert_eq!(receiver.take(&[]), took(0, None));
+    assert_eq!(receiver.take(&hex("00 FF 01 02")), took(4, None));
+    assert_eq!(receiver.dropped(), 2);
+    assert_eq!(receiver.take(&hex("00 AA")), took(2, None));
+    assert_eq!(receiver.take(&[]), took(0, None));
+    assert_eq!(receiver.take(&hex("BB 01 01 00 CC")), took(1, frame("AA BB")));
+    assert_eq!(receiver.take(&hex("01 01 00 CC 01")), took(4, frame("CC")));
+    assert_eq!(receiver.take(&hex("01 00 00 07 01 01 00 DD")), took(3, refused()));
+    assert_eq!(receiver.take(&hex("07 01 01 00 DD")), took(5, frame("DD")));
+    assert_eq!(receiver.dropped(), 3);
+}
+
+#[test]
+fn a_bad_length_is_refused_and_skipped() {
+    for length in [0u16, 65, 66, 255, 256, 257, 320, 0x4000, 65535] {
+        let mut receiver = Receiver::new();
+        let [low, high] = length.to_le_bytes();
+        assert_eq!(receiver.take(&[0x01, low]), took(2, None));
+        assert_eq!(receiver.take(&[high, 0x01, 0x01]), took(1, refused()), "{length}");
+        // What is skipped looks like frames; what follows it is one.
+        let skipped: Vec<u8> = hex("01 01 00")
+            .into_iter()
+            .cycle()
+            .take(usize::from(length))
+            .collect();
+        let bytes = [skipped, hex("01 02 00 AA BB")].concat();
+        assert_eq!(
+            receiver.take(&bytes),
+            took(bytes.len(), frame("AA BB")),
+            "{length}"
+        );
+        assert_eq!(receiver.dropped(), 0);
+    }
+    for length in [1, 2, 63, 64] {
+        let contents = vec![0x01; usize::from(length)];
+        let bytes = [vec![0x01, length, 0x00], contents.clone()].concat();
+        let came = Some(Came::Frame(contents));
+        assert_eq!(Receiver::new().take(&bytes), took(bytes.len(), came));
+    }
+}
+
+#[test]
+fn however_the_bytes_are_cut() {
+    let longest = vec![0x01; 64];
+    let bytes = [
+        hex("00 01 07 00 10 04 00 03 00 00 00 A5 02"),
+        [hex("01 40 00"), longest.clone()].concat(),
+        hex("01 00 00 01 01 00 01"),
+        [hex("01 41 00"), vec![0x01; 65]].concat(),
+        hex("01 03 00 01 01 00 FF 01 02 00 55"),
+    ]
+    .concat();
+    let expected: Vec<Came> = [
+        frame("10 04 00 03 00 00 00"),
+        Some(Came::Frame(longest)),
+        refused(),
+        frame("01"),
+        refused(),
+        frame("01 01 00"),
+    ]
+    .into_iter()
+    .flatten()
+    .collect();
+    let mut whole = Receiver::new();
+    assert_eq!(received(&mut whole, &bytes), expected);
+    assert_eq!(whole.dropped(), 4);
+
+    for length in 1..=bytes.len() {
+        let mut receiver = Receiver::new();
+        let pieces = bytes.chunks(length);
+        let came: Vec<Came> = pieces.flat_map(|piece| received(&mut receiver, piece)).collect();
+        assert_eq!(
+            (came, &receiver),
+            (expected.clone(), &whole),
+            "pieces of {length}"
+        );
+    }
+    for cut in 0..=bytes.len() {
+        let mut receiver = Receiver::new();
+        let (first, second) = bytes.split_at(cut);
+        let mut came = received(&mut receiver, first);
+        came.extend(received(&mut receiver, second));
+        assert_eq!((came, &receiver), (expected.clone(), &whole), "cut at {cut}");
+    }
+    assert_eq!(received(&mut whole, &hex("66")), [Came::Frame(hex("55 66"))]);
+}
+
+#[test]
+fn the_count_of_dropped_bytes_stops() {
+    let mut receiver = Receiver::with_dropped(4_294_967_293);
+    for (byte, count) in [
+        (0x00, 4_294_967_294),
+        (0xFF, 4_294_967_295),
+        (0x02, 4_294_967_295),
+        (0xA5, 4_294_967_295),
+    ] {
+        assert_eq!(receiver.take(&[byte]), took(1, None));
+        assert_eq!(receiver.dropped(), count);
+    }
+    assert_eq!(receiver.take(&hex("07 01 01 00 AA")), took(5, frame("AA")));
+    assert_eq!(receiver.dropped(), 4_294_967_295);
+    let mut receiver = Receiver::with_dropped(4_294_967_290);
+    assert_eq!(receiver.take(&[0x00; 300]), took(300, None));
+    assert_eq!(receiver.dropped(), 4_294_967_295);
 }

@@ -58,6 +58,170 @@ fn script_lines() {
 }
 
 #[test]
+fn wrap_and_the_receiver_on_the_bench() {
+    let mut simulation = Simulation::new();
+    let bytes = |count: usize| " 01".repeat(count);
+    let long = |first: &str, count: usize| format!("{first}{}", bytes(count));
+    for (line, expected) in [
+        (
+            "wrap 10 10 04 00 03 00 00 00",
+            "wrapped 01 07 00 10 04 00 03 00 00 00",
+        ),
+        ("wrap 9 10 04 00 03 00 00 00", "refused 1"),
+        ("wrap 0", "refused 2"),
+        ("wrap 128", "refused 2"),
+        (&long("wrap 67", 64), &long("wrapped 01 40 00", 64)),
+        (&long("wrap 66", 64), "refused 1"),
+        (&long("wrap 0", 65), "refused 2"),
+        (&long("wrap 128", 65), "refused 2"),
+        ("wrap", "line 9: not a number"),
+        ("wrap x 129", "line 10: not a number"),
+        ("wrap 129 x", "line 11: number out of range"),
+        ("wrap 128 x", "line 12: not bytes"),
+        ("stream", "took 0"),
+        ("stream 00 FF 01", "took 3"),
+        ("dropped", "dropped 2"),
+        ("stream 02 00 aa", "took 3"),
+        ("stream BB", "took 1 frame AA BB"),
+        (
+            "stream 01 01 00 CC 01 01 00 DD",
+            "took 4 frame CC / took 4 frame DD",
+        ),
+        (
+            "stream 01 00 00 01 01 00 EE",
+            "took 3 refused 4 / took 4 frame EE",
+        ),
+        ("stream 01 41 00", "took 3 refused 4"),
+        (&long("stream", 64), "took 64"),
+        ("stream 01 01 01 00 11", "took 5 frame 11"),
+        ("stream 01 00 01 02", "took 3 refused 4 / took 1"),
+        (&long("stream", 255), "took 255"),
+        ("stream 01 01 00 07 33 33", "took 4 frame 07 / took 2"),
+        ("stream 01 41 00 22", "took 3 refused 4 / took 1"),
+        ("dropped", "dropped 4"),
+        ("stream 0", "line 28: not bytes"),
+        ("dropped 1", "line 29: too many words"),
+        // A restart is none of the bench's business.
+        ("restart", "ok"),
+        ("dropped", "dropped 4"),
+        (&long("stream", 64), "took 64"),
+        ("stream 01 01 00 08", "took 4 frame 08"),
+    ] {
+        assert_eq!(answer(&mut simulation, line), expected, "{line}");
+    }
+}
+
+const WELCOME_3: &str = "11 04 00 03 00 00 00 20 1B 00 00 00 01 00 00 00 00 00 00 00 00 01 00 00 01 \
+                         00 00 00 00 00 00 00 00 00 00 00 00";
+
+#[test]
+fn streams_to_both_ends() {
+    let mut simulation = Simulation::new();
+    let opened = format!("took 4 / took 4 / took 2 frame 10 04 00 03 00 00 00: ok {WELCOME_3}");
+    let welcomed = format!("took 40 frame {WELCOME_3}: ok");
+    for (line, expected) in [
+        ("open 3", "ok 10 04 00 03 00 00 00"),
+        ("pieces-box 1 4", &opened),
+        ("pieces-office 1 128", &welcomed),
+        ("raise 1000", "ok 12 06 00 03 00 00 00 01 00 22 02 00 E8 03"),
+        ("room 36", "ok"),
+        (
+            "stream-box 01 0E 00 12 06 00 03 00 00 00 01 00 22 02 00 E8 03",
+            "took 17 frame 12 06 00 03 00 00 00 01 00 22 02 00 E8 03: refused 1",
+        ),
+        ("room 37", "ok"),
+        ("stream-box 01 0E 00 12 06 00 03 00", "took 8"),
+        // A bare frame passes the receiver by.
+        ("to-box 2", "ok 13 06 00 03 00 00 00 01 00"),
+        (
+            "stream-box 00 00 01 00 22 02 00 E8 03",
+            "took 9 frame 12 06 00 03 00 00 00 01 00 22 02 00 E8 03: ok 13 06 00 03 00 00 00 01 00",
+        ),
+        (
+            "stream-office 55 01 09 00 13 06 00 03 00 00 00 01 00 01 00 00",
+            "took 13 frame 13 06 00 03 00 00 00 01 00: ok / took 3 refused 4",
+        ),
+        (
+            "stream-box 01 01 00 10",
+            "took 4 frame 10: refused 4 14 05 00 00 00 00 00 04",
+        ),
+        (
+            "stream-office 01 07 00 10 04 00 03 00 00 00",
+            "took 10 frame 10 04 00 03 00 00 00: refused 4",
+        ),
+        // A length that is refused writes no REFUSE.
+        ("stream-box 01 00 00", "took 3 refused 4"),
+        ("stream-box", "took 0"),
+        ("pieces-office 4 11", "took 11 frame 14 05 00 00 00 00 00 04: ok"),
+        ("to-office 5", "line 17: no such frame"),
+    ] {
+        assert_eq!(answer(&mut simulation, line), expected, "{line}");
+    }
+    let shown = answer(&mut simulation, "show");
+    assert!(
+        shown.contains("office settled session 3 confirmed 1 issued 1 settings E8 03"),
+        "{shown}"
+    );
+}
+
+#[test]
+fn restart_renews_the_receiver_of_the_box() {
+    let mut simulation = Simulation::new();
+    run(&mut simulation, &["open 3", "to-box 1", "to-office 1"]);
+    for (line, expected) in [
+        ("stream-box 01 07", "took 2"),
+        ("stream-office 01 09 00 13 06", "took 5"),
+        ("restart", "ok"),
+        (
+            "pieces-box 1 9",
+            "took 9 / took 1 frame 10 04 00 03 00 00 00: refused 6 14 05 00 03 00 00 00 06",
+        ),
+        ("stream-box 01 41 00 01", "took 3 refused 4 / took 1"),
+        ("restart 2", "ok"),
+        (
+            "stream-box 01 02 00 10 04",
+            "took 5 frame 10 04: refused 4 14 05 00 00 00 00 00 04",
+        ),
+        (
+            "stream-office 00 03 00 00 00 01 00",
+            "took 7 frame 13 06 00 03 00 00 00 01 00: ok",
+        ),
+    ] {
+        assert_eq!(answer(&mut simulation, line), expected, "{line}");
+    }
+}
+
+#[test]
+fn pieces_are_judged_from_left_to_right() {
+    let mut simulation = Simulation::new();
+    run(&mut simulation, &["open 3", "to-box 1"]);
+    for (arguments, expected) in [
+        ("", "not a number"),
+        (" x x", "not a number"),
+        (" 0 x", "no such frame"),
+        (" 2 0", "no such frame"),
+        (" 99999999999999999999999 129 x", "no such frame"),
+        (" 1", "not a number"),
+        (" 1 x x", "not a number"),
+        (" 1 0 x", "number out of range"),
+        (" 1 129 x", "number out of range"),
+        (" 1 18446744073709551617", "number out of range"),
+        (" 1 128 x", "too many words"),
+        (" 1 1 into 37", "too many words"),
+    ] {
+        for word in ["pieces-box", "pieces-office"] {
+            let line = format!("{word}{arguments}");
+            let told = answer(&mut simulation, &line);
+            assert_eq!(
+                told.split_once(": ").map(|(_, what)| what),
+                Some(expected),
+                "{line}"
+            );
+        }
+    }
+}
+
+#[test]
 fn room_of_0_to_512() {
     let mut simulation = Simulation::new();
     assert_eq!(simulation.room(), 37);

@@ -16,14 +16,14 @@ use Rattle.session.specs.Office as office
 use Rattle.session.specs.Tunnel.{TunnelSettles}
 
 -- the last frame written, and the one before it
-last : {bytes : List ℕ} {frames : List (List ℕ)} → List·Memᴰ bytes (bytes ∷ frames)
+pub last : {bytes : List ℕ} {frames : List (List ℕ)} → List·Memᴰ bytes (bytes ∷ frames)
 last = List·Memᴰ·head refl
 
 before : {bytes later : List ℕ} {frames : List (List ℕ)} → List·Memᴰ bytes (later ∷ bytes ∷ frames)
 before = List·Memᴰ·tail last
 
 -- a call that is permitted, and the rest
-call : {A B : Type 0} → A → B → A × B
+pub call : {A B : Type 0} → A → B → A × B
 call permitted rest = (permitted, rest)
 
 pub tunnel-settles : TunnelSettles

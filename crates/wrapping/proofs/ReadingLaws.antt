@@ -1,12 +1,12 @@
 -- Laws of reading: a host's calls come to the bytes one by one, so that it does not matter how they are cut.
-use Prim.Native.Nat.{ℕ, zero, suc, _+_, _*_, _≤_}
+use Prim.Native.Nat.{ℕ, zero, suc, _+_, _*_, _<_, _≤_}
 use native.Mathlib.Nat.{zero-add, add-suc, suc-add}
 use native.Mathlib.Omega.{arith}
 use mathlib.Core.Path.{_≡_, refl, sym, ap, _∙_, subst}
 use mathlib.Core.Bool.{Bool, true, false, false≢true}
 use lib.Dec.{eqb, leb, ltb}
-use mathlib.Core.List.{List, [], _∷_, _++_, append-assoc, flatten}
-use lib.ListN.{length, drop, length-drop}
+use mathlib.Core.List.{List, [], _∷_, _++_, append-assoc, append-nil, flatten}
+use lib.ListN.{length, take, drop, length-drop}
 use Rattle.wrapping.specs.declared.Event.{Event}
 use Rattle.wrapping.specs.declared.Event.the-variants.{Nothing, Frame, Refused}
 use Rattle.wrapping.specs.declared.Received.{Received}
@@ -16,7 +16,7 @@ use Rattle.wrapping.specs.declared.Place.the-variants.{Tag, LengthLow, L
 use Rattle.wrapping.specs.Wrapping.{outer-tag, fits}
 use Rattle.wrapping.specs.Receiver.{dropped-most, counted, at-tag, at-length, at-contents, step-at, step, is-nothing, after-more, receive}
 use Rattle.wrapping.specs.Reading.{Handed, came-with, came, Reading, earlier, read, calls, given, given-all}
-use Rattle.wrapping.specs.Theorems.{GivenReads, CutAnyhow}
+use Rattle.wrapping.specs.Theorems.{GivenReads, CutAnyhow, UpToEvent, TakesUpToEvent}
 use Rattle.base.proofs.Tests.{cond-cases}
 use Rattle.wrapping.proofs.ReceiverLaws.{either, step-takes}
 
@@ -66,6 +66,39 @@ unfolding receive
 takes-some r byte bytes =
     cond-cases (λ (t : Received). 1 ≤ t .took) (is-nothing (step r byte .event)) (after-more 1 (receive (step r byte .receiver) bytes)) (step r byte)
     (λ _. omega arith) (λ _. rw (step-takes r byte) (omega arith))
+
+something-came : (e : Event) (r : Receiver) → is-nothing e ≡ false → came-with e r ≡ [] → ⊥
+something-came Nothing r e = λ _. false≢true (sym e)
+something-came (Frame n) r e = λ none. let z : _≡_ {A = ℕ} 0 1 = cc in omega arith
+something-came (Refused why) r e = λ none. let z : _≡_ {A = ℕ} 0 1 = cc in omega arith
+
+before-first : (r : Receiver) (bytes : List ℕ) (k : ℕ) → k < 1 → read r (take k bytes) .handed ≡ []
+before-first r bytes zero less = refl
+before-first r bytes (suc k) less = absurd (omega arith)
+
+before-next : (r : Receiver) (byte : ℕ) (bytes : List ℕ) (took : ℕ) → came (step r byte) ≡ [] → ((k : ℕ) → k < took → read (step r byte .receiver) (take k bytes) .handed ≡ []) →
+    (k : ℕ) → k < 1 + took → read r (take k (byte ∷ bytes)) .handed ≡ []
+before-next r byte bytes took quiet before zero less = refl
+before-next r byte bytes took quiet before (suc k) less = rw quiet (before k (omega arith))
+
+pub takes-up-to-event : TakesUpToEvent
+unfolding receive
+takes-up-to-event r [] = record { takes = refl; not-before = λ k less. absurd (omega arith); else-all = λ _. refl }
+takes-up-to-event r (byte ∷ bytes) =
+    let next = step r byte .receiver in
+    let later = takes-up-to-event next bytes in
+    let one-more : 1 + receive next bytes .took ≡ suc (receive next bytes .took) = omega arith in
+    cond-cases (UpToEvent r (byte ∷ bytes)) (is-nothing (step r byte .event)) (after-more 1 (receive next bytes)) (step r byte)
+    (λ e. let quiet = nothing-came (step r byte .event) next e in record {
+      takes = rw (one-more, quiet) (later .takes);
+      not-before = before-next r byte bytes _ quiet (later .not-before);
+      else-all = λ none. rw (one-more, later .else-all none);
+    })
+    (λ e. record {
+      takes = rw (step-takes r byte, append-nil);
+      not-before = λ k less. before-first r (byte ∷ bytes) k (rw (step-takes r byte) at less);
+      else-all = λ none. absurd (something-came (step r byte .event) next e none);
+    })
 
 -- ---- call after call
 

@@ -4,9 +4,10 @@ use mathlib.Core.Path.{_≡_}
 use mathlib.Core.Logic.{_⊎_}
 use mathlib.Core.Bool.{cond, _&&_}
 use mathlib.Core.List.{List, [], _∷_, _++_, map, flatMap, flatten, List·Memᴰ}
-use lib.ListN.{length}
+use lib.ListN.{length, take}
 use lib.Dec.{leb}
 use Rattle.wrapping.specs.declared.Place.the-variants.{Tag}
+use Rattle.wrapping.specs.declared.Received.{Received}
 use Rattle.wrapping.specs.declared.Receiver.{Receiver}
 use Rattle.wrapping.specs.Wrapping.{contents-most, wrapped}
 use Rattle.wrapping.specs.Receiver.{dropped-most, receive}
@@ -20,7 +21,27 @@ GivenReads = (r : Receiver) (piece : List ℕ) → given r piece ≡ read r piec
 abbrev pub CutAnyhow : Type 0
 CutAnyhow = (r : Receiver) (pieces : List (List ℕ)) → given-all r pieces ≡ given r (flatten pieces)
 
+-- a call takes the bytes up to and with the first one with which something comes, or all of them
+pub record UpToEvent (r : Receiver) (bytes : List ℕ) (t : Received) : Type 0 where
+  pub takes : read r (take (t .took) bytes) ≡ record { receiver = t .receiver; handed = came t }
+  pub not-before : (k : ℕ) → k < t .took → read r (take k bytes) .handed ≡ []
+  pub else-all : came t ≡ [] → t .took ≡ length bytes
+
+abbrev pub TakesUpToEvent : Type 0
+TakesUpToEvent = (r : Receiver) (bytes : List ℕ) → UpToEvent r bytes (receive r bytes)
+
 -- ---- from where a tag should stand
+
+-- 02's numbers, told anew
+abbrev pub tag : ℕ
+tag = 0x01
+
+abbrev pub longest : ℕ
+longest = 64
+
+-- what two bytes tell
+abbrev pub InTwoBytes : ℕ → Type 0
+InTwoBytes n = n < 65536
 
 -- every array of the code has that length
 pub record AtTag (r : Receiver) : Type 0 where
@@ -33,21 +54,21 @@ pub data Item : Type 0 where
   field : List ℕ → Item
 
 abbrev pub field-head : ℕ → List ℕ
-field-head n = 0x01 ∷ n % 256 ∷ n / 256 ∷ []
+field-head n = tag ∷ n % 256 ∷ n / 256 ∷ []
 
 abbrev pub item-bytes : Item → List ℕ
 item-bytes (stray byte) = byte ∷ []
 item-bytes (field contents) = field-head (length contents) ++ contents
 
--- a stray byte is not 01h, and two bytes tell the length of a field's contents
+-- a stray byte is not the tag, and two bytes tell the length of a field's contents
 abbrev pub Proper : Item → Type 0
-Proper (stray byte) = byte ≡ 0x01 → ⊥
-Proper (field contents) = length contents < 65536
+Proper (stray byte) = byte ≡ tag → ⊥
+Proper (field contents) = InTwoBytes (length contents)
 
 -- contents of 1 to 64 bytes are a frame, all others get refusal 4
 abbrev pub item-handed : Item → List Handed
 item-handed (stray byte) = []
-item-handed (field contents) = cond (leb 1 (length contents) && leb (length contents) 64) (frame contents ∷ []) (refused 4 ∷ [])
+item-handed (field contents) = cond (leb 1 (length contents) && leb (length contents) longest) (frame contents ∷ []) (refused 4 ∷ [])
 
 abbrev pub item-dropped : Item → ℕ
 item-dropped (stray byte) = 1
@@ -73,18 +94,18 @@ pub record Through (r : Receiver) (frames : List (List ℕ)) : Type 0 where
   pub dropped : given r (flatMap wrapped frames) .receiver .dropped ≡ r .dropped
 
 abbrev pub Wrappable : List ℕ → Type 0
-Wrappable f = (1 ≤ length f) × (length f ≤ 64)
+Wrappable f = (1 ≤ length f) × (length f ≤ longest)
 
 abbrev pub ThroughUnchanged : Type 0
 ThroughUnchanged = (r : Receiver) → AtTag r → (frames : List (List ℕ)) → ((f : List ℕ) → List·Memᴰ f frames → Wrappable f) → Through r frames
 
 -- a length that is refused skips exactly its bytes, whatever they are: the receiver is as before
 abbrev pub BadLength : ℕ → Type 0
-BadLength n = (n ≡ 0) ⊎ (64 < n)
+BadLength n = (n ≡ 0) ⊎ (longest < n)
 
 abbrev pub BadLengthSkips : Type 0
 BadLengthSkips =
-    (r : Receiver) → AtTag r → (contents : List ℕ) → BadLength (length contents) → length contents < 65536 →
+    (r : Receiver) → AtTag r → (contents : List ℕ) → BadLength (length contents) → InTwoBytes (length contents) →
     given r (field-head (length contents) ++ contents) ≡ record { receiver = r; handed = refused 4 ∷ [] }
 
 -- ---- one call takes the bytes up to and with the one that completes a frame or a refusal, whatever follows
@@ -97,5 +118,5 @@ FrameTaken =
 -- a bad length is refused at once
 abbrev pub LengthRefused : Type 0
 LengthRefused =
-    (r : Receiver) → AtTag r → (n : ℕ) (rest : List ℕ) → BadLength n → n < 65536 →
+    (r : Receiver) → AtTag r → (n : ℕ) (rest : List ℕ) → BadLength n → InTwoBytes n →
     let t = receive r (field-head n ++ rest) in (t .took ≡ length (field-head n)) × (came t ≡ refused 4 ∷ [])

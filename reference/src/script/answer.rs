@@ -5,6 +5,7 @@ use std::fmt;
 use super::parse::ParseError;
 use crate::packet::Reply;
 use crate::refusal::Refusal;
+use crate::stream::{Came, Taken};
 
 #[derive(Clone, Debug, PartialEq, Eq)]
 pub enum Answer {
@@ -15,10 +16,21 @@ pub enum Answer {
     Bus(Vec<u8>),
     Packet(Vec<u8>),
     Reply(Reply),
+    Wrapped(Vec<u8>),
+    /// Every call of a receiver.
+    Stream(Vec<Heard>),
+    Dropped(u32),
     /// What both ends hold: the box's line and the office's.
     State([String; 2]),
     /// The line's number, and what is wrong with it.
     Invalid(u64, ParseError),
+}
+
+/// What a call of a receiver came to, and the end's answer to a frame handed on.
+#[derive(Clone, Debug, PartialEq, Eq)]
+pub struct Heard {
+    pub taken: Taken,
+    pub answer: Option<Answer>,
 }
 
 /// Bytes as two digits each, a space before every one.
@@ -44,8 +56,36 @@ impl fmt::Display for Answer {
             Answer::Reply(Reply { response, data, end }) => {
                 write!(f, "reply {response:02X} data{} end {end}", Hex(data))
             }
+            Answer::Wrapped(bytes) => write!(f, "wrapped{}", Hex(bytes)),
+            Answer::Stream(calls) => joined(f, calls),
+            Answer::Dropped(count) => write!(f, "dropped {count}"),
             Answer::State([cab, office]) => write!(f, "{cab}\n{office}"),
             Answer::Invalid(line, error) => write!(f, "line {line}: {error}"),
+        }
+    }
+}
+
+fn joined(f: &mut fmt::Formatter<'_>, calls: &[Heard]) -> fmt::Result {
+    for (place, heard) in calls.iter().enumerate() {
+        if place > 0 {
+            f.write_str(" / ")?;
+        }
+        write!(f, "{heard}")?;
+    }
+    Ok(())
+}
+
+impl fmt::Display for Heard {
+    fn fmt(&self, f: &mut fmt::Formatter<'_>) -> fmt::Result {
+        write!(f, "took {}", self.taken.count)?;
+        match &self.taken.came {
+            Some(Came::Frame(frame)) => write!(f, " frame{}", Hex(frame))?,
+            Some(Came::Refused(refusal)) => write!(f, " refused {}", refusal.number())?,
+            None => {}
+        }
+        match &self.answer {
+            Some(answer) => write!(f, ": {answer}"),
+            None => Ok(()),
         }
     }
 }

@@ -9,6 +9,8 @@ use crate::packet::Way;
 
 const LONGEST_LINE: usize = 4096;
 const MOST_ROOM: u64 = 512;
+const MOST_WRAP_ROOM: u64 = 128;
+const LONGEST_PIECE: u64 = 128;
 
 pub enum Call {
     Room(usize),
@@ -22,8 +24,26 @@ pub enum Call {
     Bus(Vec<u8>),
     Packet { way: Way, id: u8, data: Vec<u8> },
     Reply { asked: Way, bytes: Vec<u8> },
+    Wrap { room: usize, frame: Vec<u8> },
+    Stream(Receives, Vec<u8>),
+    Pieces(Receives, Pieces),
+    Dropped,
     Show,
     Describe,
+}
+
+/// Whose receiver.
+#[derive(Clone, Copy)]
+pub enum Receives {
+    Bench,
+    Box,
+    Office,
+}
+
+/// A frame to be wrapped and given in pieces of that length.
+pub struct Pieces {
+    pub frame: Vec<u8>,
+    pub length: usize,
 }
 
 #[derive(Clone, Copy, Debug, PartialEq, Eq)]
@@ -87,6 +107,16 @@ pub fn parse(line: &[u8], from_cab: &Log, from_office: &Log) -> Result<Option<Ca
             asked: words.way()?,
             bytes: words.bytes()?,
         },
+        b"wrap" => Call::Wrap {
+            room: words.number(MOST_WRAP_ROOM)? as usize,
+            frame: words.bytes()?,
+        },
+        b"stream" => Call::Stream(Receives::Bench, words.bytes()?),
+        b"stream-box" => Call::Stream(Receives::Box, words.bytes()?),
+        b"stream-office" => Call::Stream(Receives::Office, words.bytes()?),
+        b"pieces-box" => Call::Pieces(Receives::Box, words.pieces(from_office)?),
+        b"pieces-office" => Call::Pieces(Receives::Office, words.pieces(from_cab)?),
+        b"dropped" => Call::Dropped,
         b"show" => Call::Show,
         b"describe" => Call::Describe,
         _ => return Err(ParseError::NotACall),
@@ -143,6 +173,17 @@ impl<'a> Words<'a> {
     fn frame(&mut self, log: &Log) -> Result<Vec<u8>, ParseError> {
         let index = self.any_number()?;
         Ok(log.get(index).ok_or(ParseError::NoSuchFrame)?.to_vec())
+    }
+
+    fn pieces(&mut self, log: &Log) -> Result<Pieces, ParseError> {
+        let frame = self.frame(log)?;
+        match self.number(LONGEST_PIECE)? {
+            0 => Err(ParseError::OutOfRange),
+            length => Ok(Pieces {
+                frame,
+                length: length as usize,
+            }),
+        }
     }
 
     fn byte(&mut self) -> Result<u8, ParseError> {

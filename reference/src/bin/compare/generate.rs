@@ -4,6 +4,8 @@ mod bus;
 mod hostile;
 mod link;
 mod longest;
+mod pieces;
+mod stream;
 
 use std::collections::BTreeSet;
 
@@ -40,6 +42,21 @@ enum Pace {
     Deaf,
 }
 
+#[derive(Clone, Copy)]
+enum End {
+    Box,
+    Office,
+}
+
+impl End {
+    fn word(self) -> &'static str {
+        match self {
+            End::Box => "box",
+            End::Office => "office",
+        }
+    }
+}
+
 struct Generator {
     rng: Rng,
     simulation: Simulation,
@@ -51,6 +68,9 @@ struct Generator {
     opened: BTreeSet<u32>,
     box_had: u64,
     office_had: u64,
+    /// What is still to come of a wrapped frame that an end's receiver has in part.
+    rest_for_box: Vec<u8>,
+    rest_for_office: Vec<u8>,
 }
 
 pub fn script(mut rng: Rng, calls: usize) -> Script {
@@ -83,6 +103,8 @@ impl Generator {
             opened: BTreeSet::new(),
             box_had: 0,
             office_had: 0,
+            rest_for_box: Vec::new(),
+            rest_for_office: Vec::new(),
         }
     }
 
@@ -105,10 +127,10 @@ impl Generator {
 
     fn step(&mut self) {
         let weights = match self.kind {
-            Kind::Allowed => [78, 0, 14, 3, 2, 3],
-            Kind::Hostile => [52, 24, 14, 4, 2, 4],
-            Kind::Bench => [0, 0, 4, 70, 22, 4],
-            Kind::Mixed => [30, 10, 12, 17, 13, 18],
+            Kind::Allowed => [77, 0, 13, 3, 2, 3, 2, 0],
+            Kind::Hostile => [50, 16, 13, 3, 2, 4, 3, 9],
+            Kind::Bench => [0, 0, 4, 48, 18, 4, 26, 0],
+            Kind::Mixed => [28, 7, 12, 12, 11, 15, 9, 6],
         };
         match self.rng.weighted(&weights) {
             0 => self.link(),
@@ -119,6 +141,8 @@ impl Generator {
             }
             3 => self.bench(),
             4 => self.tools(),
+            6 => self.stream(),
+            7 => self.hostile_stream(),
             _ => {
                 let line = lines::odd(&mut self.rng);
                 self.emit(line);

@@ -150,6 +150,84 @@ const ODD: &[&str] = &[
     "reply write",
     "reply read",
     "reply write FF FF",
+    "wrap",
+    "wrap x",
+    "wrap 67x 01",
+    "wrap 128",
+    "wrap 129",
+    "wrap 129 zz",
+    "wrap 128 zz",
+    "wrap 256 01",
+    "wrap 4294967300 01",
+    "wrap 18446744073709551620 01",
+    "wrap 0128 01",
+    "wrap -4 01",
+    "wrap 4 1",
+    "wrap 4 01 into 9",
+    "wrap # 4 01",
+    "Wrap 4 01",
+    "wrapped 4 01",
+    "stream",
+    "stream # 01",
+    "stream 1",
+    "stream 01 0",
+    "stream 010100",
+    "stream x",
+    "stream 00 into 9",
+    "stream 01 01 00 0g",
+    "Stream",
+    "streams 00",
+    "stream_box 00",
+    "streambox 00",
+    "stream box 00",
+    "stream-cab 00",
+    "stream-box",
+    "stream-office",
+    "stream-box 1",
+    "stream-box 00 zz",
+    "stream-office 0x00",
+    "stream-office 00 into 37",
+    "dropped",
+    "dropped 0",
+    "dropped x",
+    "dropped into 9",
+    "dropped # 1",
+    " dropped#1",
+    "Dropped",
+    "drop",
+    "dropped-box",
+    "pieces-box",
+    "pieces-box x",
+    "pieces-box x x",
+    "pieces-box 0 0",
+    "pieces-box 0 x",
+    "pieces-box 1",
+    "pieces-box 1 x",
+    "pieces-box 1 0",
+    "pieces-box 1 0 0",
+    "pieces-box 1 129",
+    "pieces-box 1 129 x",
+    "pieces-box 1 256",
+    "pieces-box 1 257",
+    "pieces-box 1 -1",
+    "pieces-box 1 4294967297",
+    "pieces-box 1 18446744073709551617",
+    "pieces-box 1 3 3",
+    "pieces-box 1 3 into 37",
+    "pieces-box 18446744073709551617 3",
+    "pieces-box 4294967297 0",
+    "pieces-office",
+    "pieces-office x 3",
+    "pieces-office 0 129",
+    "pieces-office 1",
+    "pieces-office 1 x",
+    "pieces-office 1 0",
+    "pieces-office 1 129",
+    "pieces-office 1 1x",
+    "pieces-office 1 3 x",
+    "pieces-office 18446744073709551617 0",
+    "pieces 1 3",
+    "pieces-bench 1 3",
     "measure",
     "ok",
     "box-to 1",
@@ -189,6 +267,12 @@ pub fn odd(rng: &mut Rng) -> Vec<u8> {
             line.extend(b" 00".repeat(rng.pick(&[1364, 1365])));
             line
         }
+        // The longest that is read, and one byte more.
+        12 => {
+            let mut line = b"stream".to_vec();
+            line.extend(b" 00".repeat(rng.pick(&[1363, 1364])));
+            line
+        }
         _ => rng.pick(ODD).as_bytes().to_vec(),
     }
 }
@@ -200,14 +284,16 @@ fn padded(start: &[u8], length: usize, filler: u8) -> Vec<u8> {
 }
 
 pub fn hex(rng: &mut Rng, first: &str, bytes: &[u8]) -> Vec<u8> {
-    let lower = rng.chance(20);
-    let mut line = first.to_string();
+    let digits = if rng.chance(20) {
+        b"0123456789abcdef"
+    } else {
+        b"0123456789ABCDEF"
+    };
+    let mut line = first.as_bytes().to_vec();
+    line.reserve(3 * bytes.len());
     for byte in bytes {
-        line += &if lower {
-            format!(" {byte:02x}")
-        } else {
-            format!(" {byte:02X}")
-        };
+        let [high, low] = [byte >> 4, byte & 15].map(|digit| digits[usize::from(digit)]);
+        line.extend([b' ', high, low]);
     }
-    line.into_bytes()
+    line
 }

@@ -4,6 +4,7 @@ use std::collections::HashMap;
 use std::time::{Duration, Instant};
 
 use reference::script::{Hex, Log, Simulation};
+use reference::stream::wrap;
 
 const PATIENCE: Duration = Duration::from_secs(20);
 /// A script this short is not tried again with its frames written out, nor is one this long.
@@ -14,16 +15,27 @@ const LONG: usize = 1000;
 #[derive(Clone)]
 enum Step {
     Line(Vec<u8>),
-    ToBox(Delivery),
-    ToOffice(Delivery),
+    Delivery(Delivery),
 }
 
 #[derive(Clone)]
 struct Delivery {
-    writer: usize,
+    way: Way,
+    writer: Writer,
     frame: Vec<u8>,
 }
 
+#[derive(Clone)]
+enum Way {
+    ToBox,
+    ToOffice,
+    /// With the length of a piece.
+    PiecesBox(String),
+    PiecesOffice(String),
+}
+
+/// A line, and which of the frames that it wrote.
+type Writer = (usize, usize);
 type Steps = Vec<(usize, Step)>;
 
 /// A shorter script that still fails. `fails` gives the place of the first failing line.
@@ -55,6 +67,47 @@ where
     };
     let mut best = attempt(steps)?;
 
+    // A line with fewer words may make others needless.
+    loop {
+        let before = size(&best);
+        last_lines(&mut best, &mut attempt);
+        fewer_lines(&mut best, &mut attempt, deadline);
+        for place in (0..best.len()).rev() {
+            fewer_words(&mut best, place, &mut attempt, deadline);
+        }
+        if size(&best) == before || Instant::now() >= deadline {
+            return Some(rendered(best).1);
+        }
+    }
+}
+
+fn size(steps: &Steps) -> usize {
+    let bytes = steps.iter().map(|(_, step)| match step {
+        Step::Line(line) => line.len(),
+        Step::Delivery(_) => 0,
+    });
+    steps.len() + bytes.sum::<usize>()
+}
+
+/// Keeps the last line alone if that will do, else the last two, four and so on.
+fn last_lines<A>(best: &mut Steps, attempt: &mut A)
+where
+    A: FnMut(Steps) -> Option<Steps>,
+{
+    let mut count = 1;
+    while count < best.len() {
+        if let Some(smaller) = attempt(best[best.len() - count..].to_vec()) {
+            *best = smaller;
+            return;
+        }
+        count *= 2;
+    }
+}
+
+fn fewer_lines<A>(best: &mut Steps, attempt: &mut A, deadline: Instant)
+where
+    A: FnMut(Steps) -> Option<Steps>,
+{
     let mut chunk = best.len();
     loop {
         let mut shrunk = false;
@@ -64,22 +117,17 @@ where
             let without = [&best[..start], &best[end..]].concat();
             match attempt(without) {
                 Some(smaller) => {
-                    best = smaller;
+                    *best = smaller;
                     shrunk = true;
                 }
                 None => start = end,
             }
         }
         if chunk == 1 && !shrunk || Instant::now() >= deadline {
-            break;
+            return;
         }
         chunk = chunk.div_ceil(2);
     }
-
-    for place in (0..best.len()).rev() {
-        fewer_words(&mut best, place, &mut attempt, deadline);
-    }
-    Some(rendered(best).1)
 }
 
 fn fewer_words<A>(best: &mut Steps, place: usize, attempt: &mut A, deadline: Instant)
@@ -113,42 +161,65 @@ where
 /// The lines as steps, each known by its place.
 fn steps_of(lines: &[Vec<u8>]) -> Steps {
     let mut simulation = Simulation::new();
-    // Which line wrote each frame.
-    let mut from_cab: Vec<usize> = Vec::new();
-    let mut from_office: Vec<usize> = Vec::new();
+    // Who wrote each frame.
+    let mut from_cab: Vec<Writer> = Vec::new();
+    let mut from_office: Vec<Writer> = Vec::new();
     let mut steps = Vec::new();
     for (id, line) in lines.iter().enumerate() {
-        let delivery = |word: &[u8], log: &Log, writers: &[usize]| -> Option<Delivery> {
-            let index = line.strip_prefix(word)?;
-            let index = std::str::from_utf8(index).ok()?.parse().ok()?;
+        let delivery = way_of(line).and_then(|(way, index)| {
+            let (log, writers) = match way {
+                Way::ToBox | Way::PiecesBox(_) => (simulation.from_office(), &from_office),
+                Way::ToOffice | Way::PiecesOffice(_) => (simulation.from_cab(), &from_cab),
+            };
             let frame = log.get(index)?.to_vec();
             Some(Delivery {
+                way,
                 writer: writers[index as usize - 1],
                 frame,
             })
-        };
-        let to_box = delivery(b"to-box ", simulation.from_office(), &from_office);
-        let to_office = delivery(b"to-office ", simulation.from_cab(), &from_cab);
-        let step = match (to_box, to_office) {
-            (Some(delivery), _) => Step::ToBox(delivery),
-            (_, Some(delivery)) => Step::ToOffice(delivery),
-            _ => Step::Line(line.clone()),
+        });
+        let step = match delivery {
+            Some(delivery) => Step::Delivery(delivery),
+            None => Step::Line(line.clone()),
         };
         steps.push((id, step));
         simulation.line(line);
-        from_cab.resize(simulation.from_cab().written() as usize, id);
-        from_office.resize(simulation.from_office().written() as usize, id);
+        note_writer(&mut from_cab, id, simulation.from_cab());
+        note_writer(&mut from_office, id, simulation.from_office());
     }
     steps
+}
+
+/// How a line delivers a frame, and the frame's number.
+fn way_of(line: &[u8]) -> Option<(Way, u64)> {
+    let words: Vec<&str> = std::str::from_utf8(line).ok()?.split(' ').collect();
+    let (way, index) = match words[..] {
+        ["to-box", index] => (Way::ToBox, index),
+        ["to-office", index] => (Way::ToOffice, index),
+        ["pieces-box", index, length] => (Way::PiecesBox(length.to_string()), index),
+        ["pieces-office", index, length] => (Way::PiecesOffice(length.to_string()), index),
+        _ => return None,
+    };
+    Some((way, index.parse().ok()?))
+}
+
+fn note_writer(writers: &mut Vec<Writer>, id: usize, log: &Log) {
+    let new = log.written() as usize - writers.len();
+    writers.extend((0..new).map(|which| (id, which)));
 }
 
 /// The same with every delivered frame given as bytes.
 fn written_out(mut steps: Steps) -> Steps {
     for (_, step) in &mut steps {
-        let line = match step {
-            Step::Line(_) => continue,
-            Step::ToBox(delivery) => format!("box{}", Hex(&delivery.frame)),
-            Step::ToOffice(delivery) => format!("office{}", Hex(&delivery.frame)),
+        let Step::Delivery(Delivery { way, frame, .. }) = step else {
+            continue;
+        };
+        let wrapped = wrap(frame, usize::MAX).unwrap_or_default();
+        let line = match way {
+            Way::ToBox => format!("box{}", Hex(frame)),
+            Way::ToOffice => format!("office{}", Hex(frame)),
+            Way::PiecesBox(_) => format!("stream-box{}", Hex(&wrapped)),
+            Way::PiecesOffice(_) => format!("stream-office{}", Hex(&wrapped)),
         };
         *step = Step::Line(line.into());
     }
@@ -159,19 +230,20 @@ fn written_out(mut steps: Steps) -> Steps {
 #[derive(Default)]
 struct Places {
     written: u64,
-    by_writer: HashMap<usize, u64>,
+    by_writer: HashMap<Writer, u64>,
     by_bytes: HashMap<Vec<u8>, u64>,
 }
 
 impl Places {
     fn note(&mut self, id: usize, log: &Log) {
-        if log.written() > self.written {
-            self.written = log.written();
-            self.by_writer.insert(id, self.written);
-            if let Some(frame) = log.get(self.written) {
-                self.by_bytes.insert(frame.to_vec(), self.written);
+        let new = self.written + 1..=log.written();
+        for (which, index) in new.enumerate() {
+            self.by_writer.insert((id, which), index);
+            if let Some(frame) = log.get(index) {
+                self.by_bytes.insert(frame.to_vec(), index);
             }
         }
+        self.written = log.written();
     }
 
     fn find(&self, delivery: &Delivery) -> Option<u64> {
@@ -190,12 +262,13 @@ fn rendered(steps: Steps) -> (Steps, Vec<Vec<u8>>) {
     for (id, step) in steps {
         let line = match &step {
             Step::Line(line) => Some(line.clone()),
-            Step::ToBox(delivery) => from_office
-                .find(delivery)
-                .map(|index| format!("to-box {index}").into()),
-            Step::ToOffice(delivery) => from_cab
-                .find(delivery)
-                .map(|index| format!("to-office {index}").into()),
+            Step::Delivery(delivery) => {
+                let places = match delivery.way {
+                    Way::ToBox | Way::PiecesBox(_) => &from_office,
+                    Way::ToOffice | Way::PiecesOffice(_) => &from_cab,
+                };
+                places.find(delivery).map(|index| carrying(&delivery.way, index))
+            }
         };
         let Some(line) = line else {
             continue;
@@ -207,4 +280,14 @@ fn rendered(steps: Steps) -> (Steps, Vec<Vec<u8>>) {
         lines.push(line);
     }
     (kept, lines)
+}
+
+fn carrying(way: &Way, index: u64) -> Vec<u8> {
+    let line = match way {
+        Way::ToBox => format!("to-box {index}"),
+        Way::ToOffice => format!("to-office {index}"),
+        Way::PiecesBox(length) => format!("pieces-box {index} {length}"),
+        Way::PiecesOffice(length) => format!("pieces-office {index} {length}"),
+    };
+    line.into()
 }

@@ -1,18 +1,32 @@
 //! Frames that no end wrote.
 
-use super::Generator;
+use super::{End, Generator};
 use crate::frames::{self, Aim};
 use crate::lines;
 
 impl Generator {
     pub(super) fn hostile(&mut self) {
+        let bytes = self.hostile_frame();
+        let end = self.end_for(&bytes);
+        let line = lines::hex(&mut self.rng, end.word(), &bytes);
+        self.emit(line);
+    }
+
+    /// Mostly the end that could understand the frame.
+    pub(super) fn end_for(&mut self, frame: &[u8]) -> End {
+        let for_box = matches!(frame.first(), Some(0x10 | 0x12));
+        let to_box = if self.rng.chance(85) { for_box } else { !for_box };
+        if to_box { End::Box } else { End::Office }
+    }
+
+    fn aim(&self) -> Aim {
         let (office, highest, next) = self.sessions();
         let open = self.simulation.cab().open();
         let now = self.simulation.office().progress();
         let taken = open.map_or(0, |open| open.taken);
         let (confirmed, issued) = now.map_or((0, 0), |now| (now.confirmed, now.issued));
         let session = open.map_or(highest, |open| open.session);
-        let aim = Aim {
+        Aim {
             sessions: vec![
                 office,
                 office,
@@ -36,8 +50,12 @@ impl Generator {
                 issued,
                 issued.saturating_add(1),
             ],
-        };
-        let bytes = match self.rng.weighted(&[50, 25, 10, 13, 2]) {
+        }
+    }
+
+    pub(super) fn hostile_frame(&mut self) -> Vec<u8> {
+        let aim = self.aim();
+        match self.rng.weighted(&[50, 25, 10, 13, 2]) {
             0 => frames::frame(&mut self.rng, &aim),
             1 => {
                 let frame = frames::frame(&mut self.rng, &aim);
@@ -66,11 +84,6 @@ impl Generator {
                     frame
                 }
             }
-        };
-        // Most go to the end that could understand them.
-        let for_box = matches!(bytes.first(), Some(0x10 | 0x12));
-        let to_box = if self.rng.chance(85) { for_box } else { !for_box };
-        let line = lines::hex(&mut self.rng, if to_box { "box" } else { "office" }, &bytes);
-        self.emit(line);
+        }
     }
 }

@@ -5,7 +5,7 @@ use reference::rng::Rng;
 use reference::script::{Answer, Log};
 use reference::traffic;
 
-use super::{Generator, Kind, Pace};
+use super::{End, Generator, Kind, Pace};
 use crate::lines;
 
 impl Generator {
@@ -36,11 +36,11 @@ impl Generator {
         {
             0 => {
                 let index = next_frame(&mut self.rng, self.simulation.from_office(), &mut self.box_had);
-                self.emit(format!("to-box {index}"));
+                self.carry(End::Box, index);
             }
             1 => {
                 let index = next_frame(&mut self.rng, self.simulation.from_cab(), &mut self.office_had);
-                self.emit(format!("to-office {index}"));
+                self.carry(End::Office, index);
             }
             2 => self.issue(),
             3 => self.resend(),
@@ -76,8 +76,8 @@ impl Generator {
         }
         for _ in 0..self.rng.between(1, 9) {
             let before = self.simulation.from_office().written();
-            self.emit(format!("to-box {before}"));
-            self.emit(format!("to-office {}", self.simulation.from_cab().written()));
+            self.carry_whole(End::Box, before);
+            self.carry_whole(End::Office, self.simulation.from_cab().written());
             match self.simulation.office().progress() {
                 Some(now) if now.confirmed < now.issued => {
                     self.emit(format!("resend {}", now.confirmed + 1));
@@ -114,7 +114,8 @@ impl Generator {
         }
     }
 
-    fn restart(&mut self) {
+    pub(super) fn restart(&mut self) {
+        self.rest_for_box.clear();
         let (office, highest, next) = self.sessions();
         if self.kind == Kind::Allowed || self.rng.chance(50) {
             self.emit("restart");
