@@ -1,9 +1,8 @@
 -- What arrives at one end, where it is the beginning of a row of wrapped frames.
-use Prim.Native.Nat.{ℕ, _≤_}
+use Prim.Native.Nat.{ℕ}
 use native.Mathlib.Omega.{arith}
 use mathlib.Core.Path.{_≡_, refl, sym, ap, _∙_, subst}
-use mathlib.Core.List.{List, [], _∷_, _++_, map, flatMap, append-assoc, List·Memᴰ, List·Memᴰ·head, List·Memᴰ·tail, Memᴰ·cast, Memᴰ·append-left, Memᴰ·append-right, Memᴰ·of-map}
-use Rattle.wrapping.specs.declared.Receiver.{Receiver}
+use mathlib.Core.List.{List, [], _∷_, _++_, map, flatMap, List·Memᴰ, List·Memᴰ·head, List·Memᴰ·tail, Memᴰ·cast, Memᴰ·append-left, Memᴰ·of-map}
 use Rattle.wrapping.specs.Wrapping.{wrapped}
 use Rattle.wrapping.specs.Receiver.{fresh}
 use Rattle.wrapping.specs.Reading.{Handed, frame, refused, Reading, earlier, read, given}
@@ -11,7 +10,7 @@ use Rattle.wrapping.specs.Theorems.{AtTag, Wrappable}
 use Rattle.wrapping.proofs.ReadingLaws.{read-append, given-reads, dropped-grows}
 use Rattle.wrapping.proofs.StreamTheorems.{through-unchanged}
 use Rattle.delivery.specs.Calls.{Incoming, started, with-piece, frames}
-use Rattle.delivery.specs.Claim.{Unharmed}
+use Rattle.delivery.specs.Claim.{Intact}
 
 -- ---- frames among what was handed on
 
@@ -82,5 +81,5 @@ module _ (i : Incoming) (b : Begun i) where
       ap (λ (t : Reading). t .handed) (sym (b .reads) ∙ ap (read fresh) e ∙ sym (given-reads fresh (flatMap wrapped row))) ∙ through-unchanged fresh fresh-at-tag row each .handed in
       ap frames all ∙ frames-all row
 
-  pub unharmed : Unharmed i
-  unharmed = record { none-refused = none-refused; none-dropped = none-dropped; through = through }
+  pub intact : Intact i
+  intact = record { none-refused = none-refused; none-dropped = none-dropped; through = through }

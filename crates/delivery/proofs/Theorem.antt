@@ -2,7 +2,7 @@
 -- wrote, so that the calls delivered are a list of 01's.
 use Prim.Native.Nat.{ℕ, zero, suc, _≤_}
 use native.Mathlib.Omega.{arith}
-use mathlib.Core.Path.{_≡_, refl, subst}
+use mathlib.Core.Path.{refl}
 use mathlib.Core.List.{List, [], _∷_, _++_, map, List·Memᴰ, List·Memᴰ·head, List·Memᴰ·tail, Memᴰ·append-right}
 use lib.ListN.{length, take}
 use Rattle.frame.specs.Frame.{Frame, opening, welcome, order, ack, refuse}
@@ -19,7 +19,7 @@ use Rattle.session.proofs.Theorem.{follows-one, demand-3}
 use Rattle.session.proofs.Tools.{Decodes}
 use Rattle.delivery.specs.Calls.{ByteCall, whole, box-bytes, office-bytes, Incoming, Arrivals, first-arrivals, with-piece, arrivals-with, arrivals-after, frames, delivered-by, delivered-from, delivered, Begins, SupposedOf, log-after, SupposedFrom, Supposed}
 use Rattle.delivery.specs.Claim.{Demand3Delivered}
-use Rattle.delivery.proofs.Arrivals.{frames-among, reads-piece, Begun, begun-start, frames-each, unharmed}
+use Rattle.delivery.proofs.Arrivals.{frames-among, reads-piece, Begun, begun-start, frames-each, intact}
 
 -- ---- every frame that an end writes can be wrapped
 
@@ -130,6 +130,6 @@ demand-3-delivered cs supposed =
     record {
       allowed = all .allowed;
       claim = demand-3 _ (all .allowed);
-      at-box = λ n. unharmed _ (part n .box);
-      at-office = λ n. unharmed _ (part n .office);
+      at-box = λ n. intact _ (part n .box);
+      at-office = λ n. intact _ (part n .office);
     }

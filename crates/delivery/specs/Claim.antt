@@ -12,7 +12,7 @@ use Rattle.session.specs.Claim.{Claim}
 use Rattle.delivery.specs.Calls.{ByteCall, Incoming, first-arrivals, arrivals-after, frames, delivered, Supposed}
 
 -- what arrived at an end since its start or restart
-pub record Unharmed (i : Incoming) : Type 0 where
+pub record Intact (i : Incoming) : Type 0 where
   -- nothing was refused or dropped on the way
   pub none-refused : (n : ℕ) → List·Memᴰ (refused n) (i .handed) → ⊥
   pub none-dropped : i .receiver .dropped ≡ 0
@@ -24,8 +24,8 @@ pub record Delivered (cs : List ByteCall) : Type 0 where
   pub allowed : Allowed (delivered cs)
   pub claim : Claim (delivered cs)
   -- after every call
-  pub at-box : (n : ℕ) → Unharmed (arrivals-after first-arrivals (take n cs) .box)
-  pub at-office : (n : ℕ) → Unharmed (arrivals-after first-arrivals (take n cs) .office)
+  pub at-box : (n : ℕ) → Intact (arrivals-after first-arrivals (take n cs) .box)
+  pub at-office : (n : ℕ) → Intact (arrivals-after first-arrivals (take n cs) .office)
 
 -- It supposes that from each start or restart on a receiver stands where a tag should, as a fresh one does, and is given whole wrapped frames, cut anyhow.
 abbrev pub Demand3Delivered : Type 0

@@ -1,6 +1,5 @@
 -- What a receiver makes of one item, from where a tag should stand.
 use Prim.Native.Nat.{ℕ, suc, _+_, _*_, _-_, _/_, _%_, _<_, _≤_, min}
-use native.Mathlib.Nat.{zero-add}
 use native.Mathlib.Omega.{arith}
 use native.Mathlib.Numerals.{add-one}
 use mathlib.Core.Path.{_≡_, refl, sym, ap, _∙_}
@@ -16,7 +15,7 @@ use Rattle.base.proofs.Lists.{sets-front}
 use Rattle.base.proofs.Tests.{cond-cases}
 use Rattle.wrapping.specs.declared.Event.the-variants.{Nothing, Frame, Refused}
 use Rattle.wrapping.specs.declared.Place.{Place}
-use Rattle.wrapping.specs.declared.Place.the-variants.{Tag, LengthLow, LengthHigh, Contents, Skipped}
+use Rattle.wrapping.specs.declared.Place.the-variants.{Tag, LengthLow, LengthHigh, Contents}
 use Rattle.wrapping.specs.declared.Receiver.{Receiver}
 use Rattle.wrapping.specs.Wrapping.{contents-most, outer-tag, fits}
 use Rattle.wrapping.specs.Receiver.{counted, at-tag, skipping, at-length, at-contents, step, moved, after-more, receive}

@@ -1,9 +1,8 @@
 -- Laws of reading: a host's calls come to the bytes one by one, so that it does not matter how they are cut.
 use Prim.Native.Nat.{ℕ, zero, suc, _+_, _*_, _<_, _≤_}
-use native.Mathlib.Nat.{zero-add, add-suc, suc-add}
 use native.Mathlib.Omega.{arith}
-use mathlib.Core.Path.{_≡_, refl, sym, ap, _∙_, subst}
-use mathlib.Core.Bool.{Bool, true, false, false≢true}
+use mathlib.Core.Path.{_≡_, refl, sym, ap, _∙_}
+use mathlib.Core.Bool.{true, false, false≢true}
 use lib.Dec.{eqb, leb, ltb}
 use mathlib.Core.List.{List, [], _∷_, _++_, append-assoc, append-nil, flatten}
 use lib.ListN.{length, take, drop, length-drop}
@@ -15,7 +14,7 @@ use Rattle.wrapping.specs.declared.Place.{Place}
 use Rattle.wrapping.specs.declared.Place.the-variants.{Tag, LengthLow, LengthHigh, Contents, Skipped}
 use Rattle.wrapping.specs.Wrapping.{outer-tag, fits}
 use Rattle.wrapping.specs.Receiver.{dropped-most, counted, at-tag, at-length, at-contents, step-at, step, is-nothing, after-more, receive}
-use Rattle.wrapping.specs.Reading.{Handed, came-with, came, Reading, earlier, read, calls, given, given-all}
+use Rattle.wrapping.specs.Reading.{Handed, came-with, came, Reading, earlier, read, calls, given-all}
 use Rattle.wrapping.specs.Theorems.{GivenReads, CutAnyhow, UpToEvent, TakesUpToEvent}
 use Rattle.base.proofs.Tests.{cond-cases}
 use Rattle.wrapping.proofs.ReceiverLaws.{either, step-takes}

@@ -1,24 +1,26 @@
 -- What holds of frames over a stream, proved item by item.
 use Prim.Native.Nat.{ℕ, _+_, _/_, _%_, _<_, _≤_, min}
 use native.Mathlib.Omega.{arith}
-use mathlib.Core.Path.{_≡_, refl, sym, ap, _∙_, subst}
+use mathlib.Core.Path.{_≡_, refl, sym, ap, _∙_}
 use mathlib.Core.Logic.{inl, inr}
 use mathlib.Core.Bool.{Bool, true, false}
-use mathlib.Core.List.{List, [], _∷_, _++_, map, flatMap, append-assoc, List·Memᴰ, List·Memᴰ·head, List·Memᴰ·tail}
+use mathlib.Core.List.{List, [], _∷_, _++_, map, flatMap, List·Memᴰ, List·Memᴰ·head, List·Memᴰ·tail}
 use lib.ListN.{length}
 use lib.Seq.{sets, length-sets, take-append-seam}
 use lib.Dec.{leb, ltb}
 use borrow.Author.Tests.{ltb-true, ltb-false, leb-true, leb-false}
+use Rattle.base.specs.Result.{Result, accepted}
 use Rattle.base.proofs.Lists.{sets-front}
 use Rattle.base.proofs.Tests.{cond-cases}
 use Rattle.wrapping.specs.declared.Place.{Place}
 use Rattle.wrapping.specs.declared.Place.the-variants.{Tag}
 use Rattle.wrapping.specs.declared.Received.{Received}
 use Rattle.wrapping.specs.declared.Receiver.{Receiver}
-use Rattle.wrapping.specs.Wrapping.{contents-most, wrapped}
+use Rattle.wrapping.specs.Wrapping.{contents-most, fits, wrapped, wrapping}
 use Rattle.wrapping.specs.Receiver.{dropped-most, counted, receive}
-use Rattle.wrapping.specs.Reading.{Handed, frame, refused, came, Reading, earlier, read, given}
-use Rattle.wrapping.specs.Theorems.{AtTag, Item, stray, field, field-head, item-bytes, Proper, item-handed, item-dropped, dropped-of, RowRead, RowsRead, Through, Wrappable, ThroughUnchanged, BadLength, BadLengthSkips, FrameTaken, LengthRefused}
+use Rattle.wrapping.specs.Reading.{Handed, frame, refused, Reading, earlier, read}
+use Rattle.wrapping.specs.Theorems.{AtTag, Item, stray, field, field-head, item-bytes, Proper, item-handed, item-dropped, dropped-of, RowsRead, Wrappable, ThroughUnchanged, BadLength, BadLengthSkips, WrapTaken, LengthRefused}
+use Rattle.wrapping.proofs.WrappingLaws.{fits-within}
 use Rattle.wrapping.proofs.FieldLaws.{standing, length-received, frame-received, bad-read, frame-read, stray-read}
 use Rattle.wrapping.proofs.ReadingLaws.{read-append, given-reads}
 
@@ -136,13 +138,24 @@ rows-read r at most row each =
 
 -- ---- one call
 
-pub frame-taken : FrameTaken
-frame-taken r at f rest fit =
+wrap-wrote : (f bytes : List ℕ) (room : ℕ) → wrapping f room ≡ accepted bytes → Wrappable f × (bytes ≡ wrapped f)
+unfolding wrapping
+wrap-wrote f bytes room =
+    cond-cases (λ (x : Result (List ℕ)). x ≡ accepted bytes → Wrappable f × (bytes ≡ wrapped f)) (fits (length f)) _ _
+    (λ fitting. cond-cases (λ (x : Result (List ℕ)). x ≡ accepted bytes → Wrappable f × (bytes ≡ wrapped f)) (ltb room (length (wrapped f))) _ _
+    (λ _ e. let z : _≡_ {A = ℕ} 0 1 = cc in absurd (omega arith))
+    (λ _ e. (fits-within (length f) fitting, cc)))
+    (λ _ e. let z : _≡_ {A = ℕ} 0 1 = cc in absurd (omega arith))
+
+pub wrap-taken : WrapTaken
+wrap-taken r at f bytes rest room written =
+    let (fit, same) = wrap-wrote f bytes room written in
+    let start = standing Tag (r .buffer) (r .dropped) in
     let taken =
-    ap (λ (s : Receiver). receive s (wrapped f ++ rest)) (tag-place r at) ∙
-    ap (λ (bytes : List ℕ). receive (standing Tag (r .buffer) (r .dropped)) (bytes ++ rest)) (wrapped-field f fit) ∙ frame-received (r .buffer) (r .dropped) f rest fit in
+    ap (λ (s : Receiver). receive s (bytes ++ rest)) (tag-place r at) ∙
+    ap (λ (b : List ℕ). receive start (b ++ rest)) (same ∙ wrapped-field f fit) ∙ frame-received (r .buffer) (r .dropped) f rest fit in
     let stored = sets-front f (r .buffer) (omega (arith, at .long)) in
-    (ap (λ (t : Received). t .took) taken ∙ omega arith, rw (taken, stored, take-append-seam))
+    (ap (λ (t : Received). t .took) taken ∙ omega (arith, ap length same), rw (taken, stored, take-append-seam))
 
 pub length-refused : LengthRefused
 length-refused r at n rest bad small =

@@ -6,10 +6,11 @@ use mathlib.Core.Bool.{cond, _&&_}
 use mathlib.Core.List.{List, [], _∷_, _++_, map, flatMap, flatten, List·Memᴰ}
 use lib.ListN.{length, take}
 use lib.Dec.{leb}
+use Rattle.base.specs.Result.{accepted}
 use Rattle.wrapping.specs.declared.Place.the-variants.{Tag}
 use Rattle.wrapping.specs.declared.Received.{Received}
 use Rattle.wrapping.specs.declared.Receiver.{Receiver}
-use Rattle.wrapping.specs.Wrapping.{contents-most, wrapped}
+use Rattle.wrapping.specs.Wrapping.{contents-most, wrapped, wrapping}
 use Rattle.wrapping.specs.Receiver.{dropped-most, receive}
 use Rattle.wrapping.specs.Reading.{Handed, frame, refused, came, read, given, given-all}
 
@@ -110,10 +111,11 @@ BadLengthSkips =
 
 -- ---- one call takes the bytes up to and with the one that completes a frame or a refusal, whatever follows
 
-abbrev pub FrameTaken : Type 0
-FrameTaken =
-    (r : Receiver) → AtTag r → (f rest : List ℕ) → Wrappable f →
-    let t = receive r (wrapped f ++ rest) in (t .took ≡ length (wrapped f)) × (came t ≡ frame f ∷ [])
+-- what the wrapping call writes is taken apart again
+abbrev pub WrapTaken : Type 0
+WrapTaken =
+    (r : Receiver) → AtTag r → (f bytes rest : List ℕ) (room : ℕ) → wrapping f room ≡ accepted bytes →
+    let t = receive r (bytes ++ rest) in (t .took ≡ length bytes) × (came t ≡ frame f ∷ [])
 
 -- a bad length is refused at once
 abbrev pub LengthRefused : Type 0
