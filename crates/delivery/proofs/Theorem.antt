@@ -11,13 +11,14 @@ use Rattle.link.proofs.FrameTheorems.{encode-short}
 use Rattle.wrapping.specs.Reading.{given}
 use Rattle.wrapping.specs.Theorems.{Wrappable}
 use Rattle.session.specs.declared.Ends.{Ends}
-use Rattle.session.specs.Calls.{Call, restart, box-frame, open-session, issue, resend, reopen, office-frame, state-after, first-ends, ends-rules, Log, first-log, AllowedFrom}
-use Rattle.session.specs.History.{History, first-history, rules}
+use Rattle.session.specs.Calls.{Call, restart, box-frame, open-session, issue, resend, reopen, office-frame, state-after, first-ends, ends-rules, Log, first-log, log-after, AllowedFrom}
+use Rattle.session.specs.History.{History, first-history}
 use Rattle.session.proofs.Invariant.{Safe, safe-first}
 use Rattle.session.proofs.Refinement.{EndsAlike, first-ends-alike}
-use Rattle.session.proofs.Theorem.{follows-one, demand-3}
+use Rattle.session.proofs.Theorem.{follows, demand-3}
 use Rattle.session.proofs.Tools.{Decodes}
-use Rattle.delivery.specs.Calls.{ByteCall, whole, box-bytes, office-bytes, Incoming, Arrivals, first-arrivals, with-piece, arrivals-with, arrivals-after, frames, delivered-by, delivered-from, delivered, Begins, SupposedOf, log-after, SupposedFrom, Supposed}
+use Rattle.delivery.specs.Calls.{ByteCall, whole, box-bytes, office-bytes, Incoming, Arrivals, first-arrivals, with-piece, arrivals-with}
+use Rattle.delivery.specs.Calls.{arrivals-after, frames, delivered-by, delivered-from, delivered, Begins, SupposedOf, SupposedFrom, Supposed}
 use Rattle.delivery.specs.Claim.{Demand3Delivered}
 use Rattle.delivery.proofs.Arrivals.{frames-among, reads-piece, Begun, begun-start, frames-each, intact}
 
@@ -52,17 +53,6 @@ office-frames-allowed : (fs : List (List ℕ)) (e : Ends) (l : Log) → ((f : Li
 office-frames-allowed [] e l each = tt
 office-frames-allowed (f ∷ fs) e l each =
     (each f (List·Memᴰ·head refl), office-frames-allowed fs (ends-rules e (office-frame f) .state) _ (λ g m. each g (List·Memᴰ·tail m)))
-
-record Followed (e : Ends) (h : History) (l : Log) (cs : List Call) : Type 0 where
-  alike : EndsAlike (state-after ends-rules e cs) (state-after rules h cs)
-  safe : Safe (state-after rules h cs) (log-after e l cs)
-
-follows : (cs : List Call) (e : Ends) (h : History) (l : Log) → EndsAlike e h → Safe h l → AllowedFrom e l cs → Followed e h l cs
-follows [] e h l alike safe allowed = record { alike = alike; safe = safe }
-follows (c ∷ cs) e h l alike safe (permitted, allowed) =
-    let one = follows-one c e h l alike safe permitted in
-    let rest = follows cs (ends-rules e c .state) (rules h c .state) _ (one .alike) (one .safe) allowed in
-    record { alike = rest .alike; safe = rest .safe }
 
 -- ---- a piece at an end
 

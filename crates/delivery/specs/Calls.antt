@@ -7,7 +7,8 @@ use Rattle.wrapping.specs.Wrapping.{wrapped}
 use Rattle.wrapping.specs.Receiver.{fresh}
 use Rattle.wrapping.specs.Reading.{Handed, frame, refused, given}
 use Rattle.session.specs.declared.Ends.{Ends}
-use Rattle.session.specs.Calls.{Call, restart, box-frame, open-session, issue, resend, reopen, office-frame, answer-of, state-after, first-ends, ends-rules, cab-session, Log, first-log, logged, Permitted}
+use Rattle.session.specs.Calls.{Call, restart, box-frame, open-session, issue, resend, reopen, office-frame}
+use Rattle.session.specs.Calls.{answer-of, state-after, first-ends, ends-rules, Log, first-log, log-after, Permitted}
 
 pub data ByteCall : Type 0 where
   -- a call of 01's list
@@ -91,12 +92,6 @@ abbrev pub SupposedOf : Ends → Log → Arrivals → ByteCall → Type 0
 SupposedOf e l a (whole c) = Permitted l c (answer-of (ends-rules e c))
 SupposedOf e l a (box-bytes piece room) = Begins (a .box .given ++ piece) (l .from-office)
 SupposedOf e l a (office-bytes piece) = Begins (a .office .given ++ piece) (l .from-box)
-
-abbrev pub log-after : Ends → Log → List Call → Log
-log-after e l [] = l
-log-after e l (c ∷ cs) =
-    let t = ends-rules e c in
-    log-after (t .state) (logged l c (answer-of t) (cab-session (t .state .cab))) cs
 
 abbrev pub SupposedFrom : Ends → Log → Arrivals → List ByteCall → Type 0
 SupposedFrom e l a [] = Unit {0}

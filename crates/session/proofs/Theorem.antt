@@ -9,7 +9,7 @@ use Rattle.session.specs.declared.Cab.{Cab}
 use Rattle.session.specs.declared.Ends.{Ends}
 use Rattle.session.specs.declared.Office.{Office}
 use Rattle.session.specs.declared.Progress.the-variants.{Settled}
-use Rattle.session.specs.Calls.{Call, answer-of, state-after, answers, first-ends, ends-rules, cab-session, Log, first-log, logged, Permitted, AllowedFrom}
+use Rattle.session.specs.Calls.{Call, answer-of, state-after, answers, first-ends, ends-rules, cab-session, Log, first-log, logged, log-after, Permitted, AllowedFrom}
 use Rattle.session.specs.Claim.{BoxAgrees, OfficeAgrees, Demand3}
 use Rattle.session.specs.History.{BoxHistory, History, first-history, settings-after, orders, rules}
 use Rattle.session.specs.Office as office
@@ -41,39 +41,24 @@ same-taken (active {highest = highest} {taken = taken} _) s e = ap (λ (t : ℕ)
 
 -- ---- along a list
 
--- one call: both answer alike, and are alike and safe afterwards
-pub record FollowedOne (e : Ends) (h : History) (l : Log) (c : Call) : Type 0 where
-  pub same-answer : answer-of (ends-rules e c) ≡ answer-of (rules h c)
-  pub alike : EndsAlike (ends-rules e c .state) (rules h c .state)
-  pub safe : Safe (rules h c .state) (logged l c (answer-of (ends-rules e c)) (cab-session (ends-rules e c .state .cab)))
+pub record Followed (e : Ends) (h : History) (l : Log) (cs : List Call) : Type 0 where
+  pub same-answers : answers ends-rules e cs ≡ answers rules h cs
+  pub alike : EndsAlike (state-after ends-rules e cs) (state-after rules h cs)
+  pub safe : Safe (state-after rules h cs) (log-after e l cs)
 
-pub follows-one : (c : Call) (e : Ends) (h : History) (l : Log) → EndsAlike e h → Safe h l → Permitted l c (answer-of (ends-rules e c)) → FollowedOne e h l c
-follows-one c e h l a safe permitted =
+pub follows : (cs : List Call) (e : Ends) (h : History) (l : Log) → EndsAlike e h → Safe h l → AllowedFrom e l cs → Followed e h l cs
+follows [] e h l a safe allowed = record { same-answers = refl; alike = a; safe = safe }
+follows (c ∷ cs) e h l a safe (permitted, allowed) =
     let both = call-alike e h a l safe c permitted in
     let answered = same-answer EndsAlike (ends-rules e c) (rules h c) both in
+    let session = same-session (both .states .cab) in
     let logs : logged l c (answer-of (rules h c)) (rules h c .state .box .session) ≡ logged l c (answer-of (ends-rules e c)) (cab-session (ends-rules e c .state .cab)) =
-    λ i. logged l c (sym answered i) (sym (same-session (both .states .cab)) i) in
+    λ i. logged l c (sym answered i) (sym session i) in
+    let safe-after = subst (Safe (rules h c .state)) logs (safe-step h l safe c (subst (Permitted l c) answered permitted)) in
+    let rest = follows cs (ends-rules e c .state) (rules h c .state) _ (both .states) safe-after allowed in
     record {
-      same-answer = answered;
-      alike = both .states;
-      safe = subst (Safe (rules h c .state)) logs (safe-step h l safe c (subst (Permitted l c) answered permitted));
-    }
-
-record Followed (e : Ends) (h : History) (cs : List Call) : Type 0 where
-  same-answers : answers ends-rules e cs ≡ answers rules h cs
-  alike : EndsAlike (state-after ends-rules e cs) (state-after rules h cs)
-  log : Log
-  safe : Safe (state-after rules h cs) log
-
-follows : (cs : List Call) (e : Ends) (h : History) (l : Log) → EndsAlike e h → Safe h l → AllowedFrom e l cs → Followed e h cs
-follows [] e h l a safe allowed = record { same-answers = refl; alike = a; log = l; safe = safe }
-follows (c ∷ cs) e h l a safe (permitted, allowed) =
-    let one = follows-one c e h l a safe permitted in
-    let rest = follows cs (ends-rules e c .state) (rules h c .state) _ (one .alike) (one .safe) allowed in
-    record {
-      same-answers = λ i. one .same-answer i ∷ rest .same-answers i;
+      same-answers = λ i. answered i ∷ rest .same-answers i;
       alike = rest .alike;
-      log = rest .log;
       safe = rest .safe;
     }
 
@@ -124,8 +109,8 @@ demand-3 cs allowed =
     let end = follows cs first-ends first-history first-log first-ends-alike safe-first allowed in
     record {
       same-answers = end .same-answers;
-      box-agrees = box-agrees _ _ (end .alike) (end .log) (end .safe);
-      office-agrees = office-agrees _ _ (end .alike) (end .log) (end .safe);
-      confirmed-taken = confirmed-taken _ _ (end .alike) (end .log) (end .safe);
-      settled-equal = settled-equal _ _ (end .alike) (end .log) (end .safe);
+      box-agrees = box-agrees _ _ (end .alike) _ (end .safe);
+      office-agrees = office-agrees _ _ (end .alike) _ (end .safe);
+      confirmed-taken = confirmed-taken _ _ (end .alike) _ (end .safe);
+      settled-equal = settled-equal _ _ (end .alike) _ (end .safe);
     }

@@ -108,6 +108,13 @@ logged l (resend n room) a session = logged-at-office l a (l .named)
 logged l (reopen room) a session = logged-at-office l a (l .named)
 logged l (office-frame bytes) a session = logged-at-office l a (l .named)
 
+-- along a list of calls at the ends
+abbrev pub log-after : Ends → Log → List Call → Log
+log-after e l [] = l
+log-after e l (c ∷ cs) =
+    let t = ends-rules e c in
+    log-after (t .state) (logged l c (answer-of t) (cab-session (t .state .cab))) cs
+
 -- sessions and changes that the code's types hold
 abbrev pub FitsSession : ℕ → Type 0
 FitsSession s = s < 4294967296

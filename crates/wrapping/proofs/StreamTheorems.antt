@@ -19,7 +19,8 @@ use Rattle.wrapping.specs.declared.Receiver.{Receiver}
 use Rattle.wrapping.specs.Wrapping.{contents-most, fits, wrapped, wrapping}
 use Rattle.wrapping.specs.Receiver.{dropped-most, counted, receive}
 use Rattle.wrapping.specs.Reading.{Handed, frame, refused, Reading, earlier, read}
-use Rattle.wrapping.specs.Theorems.{AtTag, Item, stray, field, field-head, item-bytes, Proper, item-handed, item-dropped, dropped-of, RowsRead, Wrappable, ThroughUnchanged, BadLength, BadLengthSkips, WrapTaken, LengthRefused}
+use Rattle.wrapping.specs.Theorems.{AtTag, Item, stray, field, field-head, item-bytes, Proper, item-handed}
+use Rattle.wrapping.specs.Theorems.{item-dropped, dropped-of, RowsRead, Wrappable, ThroughUnchanged, BadLength, BadLengthSkips, WrapTaken, LengthRefused}
 use Rattle.wrapping.proofs.WrappingLaws.{fits-within}
 use Rattle.wrapping.proofs.FieldLaws.{standing, length-received, frame-received, bad-read, frame-read, stray-read}
 use Rattle.wrapping.proofs.ReadingLaws.{read-append, given-reads}
