@@ -25,7 +25,8 @@ use Rattle.delivery.specs.Pieces.{PiecesDelivered}
 no-frame : {written : List (List ℕ)} (f : List ℕ) → List·Memᴰ f [] → List·Memᴰ f written
 no-frame f m = absurd (List·Memᴰ·not-nil m)
 
-and-frame : {row written : List (List ℕ)} {f : List ℕ} → List·Memᴰ f written → ((g : List ℕ) → List·Memᴰ g row → List·Memᴰ g written) → (g : List ℕ) → List·Memᴰ g (f ∷ row) → List·Memᴰ g written
+and-frame : {row written : List (List ℕ)} {f : List ℕ} → List·Memᴰ f written → ((g : List ℕ) → List·Memᴰ g row → List·Memᴰ g written) →
+    (g : List ℕ) → List·Memᴰ g (f ∷ row) → List·Memᴰ g written
 and-frame here rest g (List·Memᴰ·head e) = Memᴰ·cast e here
 and-frame here rest g (List·Memᴰ·tail m) = rest g m
 

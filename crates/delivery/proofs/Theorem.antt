@@ -44,7 +44,8 @@ allowed-append : (xs ys : List Call) (e : Ends) (l : Log) → AllowedFrom e l xs
 allowed-append [] ys e l first second = second
 allowed-append (x ∷ xs) ys e l (permitted, first) second = (permitted, allowed-append xs ys (ends-rules e x .state) _ first second)
 
-box-frames-allowed : (fs : List (List ℕ)) (room : ℕ) (e : Ends) (l : Log) → ((f : List ℕ) → List·Memᴰ f fs → List·Memᴰ f (l .from-office)) → AllowedFrom e l (map (λ f. box-frame f room) fs)
+box-frames-allowed : (fs : List (List ℕ)) (room : ℕ) (e : Ends) (l : Log) → ((f : List ℕ) → List·Memᴰ f fs → List·Memᴰ f (l .from-office)) →
+    AllowedFrom e l (map (λ f. box-frame f room) fs)
 box-frames-allowed [] room e l each = tt
 box-frames-allowed (f ∷ fs) room e l each =
     (each f (List·Memᴰ·head refl), box-frames-allowed fs room (ends-rules e (box-frame f room) .state) _ (λ g m. each g (List·Memᴰ·tail m)))

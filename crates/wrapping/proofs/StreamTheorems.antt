@@ -41,7 +41,8 @@ record Passed (buffer : List ℕ) (dropped : ℕ) (frames : List (List ℕ)) : T
   long : length left ≡ contents-most
   reads : read (standing Tag buffer dropped) (flatMap wrapped frames) ≡ record { receiver = standing Tag left dropped; handed = map frame frames }
 
-passes : (frames : List (List ℕ)) (buffer : List ℕ) (dropped : ℕ) → length buffer ≡ contents-most → ((f : List ℕ) → List·Memᴰ f frames → Wrappable f) → Passed buffer dropped frames
+passes : (frames : List (List ℕ)) (buffer : List ℕ) (dropped : ℕ) → length buffer ≡ contents-most → ((f : List ℕ) → List·Memᴰ f frames → Wrappable f) →
+    Passed buffer dropped frames
 unfolding flatMap
 passes [] buffer dropped long each = record { left = buffer; long = long; reads = refl }
 passes (f ∷ frames) buffer dropped long each =

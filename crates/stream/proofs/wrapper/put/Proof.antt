@@ -30,7 +30,8 @@ returns c =
     let first = last .before .before .before .before in
     let entry = first .before .before .before in
     let start = entry .before .before .before .before in
-    last .store2 .ensures ∙ rw (first .store .ensures, entry .high .ensures, entry .before .low .ensures) (sets-next (head (start .args .len)) (now (start .args .frame)) (now (start .args .out)) 3 refl)
+    last .store2 .ensures ∙
+    rw (first .store .ensures, entry .high .ensures, entry .before .low .ensures) (sets-next (head (start .args .len)) (now (start .args .frame)) (now (start .args .out)) 3 refl)
 
 pub put-spec : {M : Type 1} → statement M
 put-spec =
