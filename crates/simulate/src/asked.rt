@@ -2,6 +2,7 @@
 use crate::buffers::Memory;
 use crate::frames::GIVEN;
 use calls::Call;
+use frame::SessionId;
 use packet::Access;
 
 // What can be wrong with a line.
@@ -17,7 +18,7 @@ pub(crate) enum Fault {
     TooManyWords,
 }
 
-// Whose settings are told.
+// Whose settings are told, or whose receiver is given bytes.
 pub(crate) enum Holder {
     Bench,
     Box,
@@ -47,6 +48,7 @@ pub(crate) enum Told {
     Describe,
     Progress,
     Held(Holder, Register),
+    Dropped,
 }
 
 // What is printed of the bytes that the controller on the bench sends: all, or the reply among them.
@@ -61,6 +63,8 @@ pub(crate) enum Made {
     Reply(Access),
     Encoded,
     Decoded,
+    // The output has so many bytes.
+    Wrapped(usize),
 }
 
 // What only prints.
@@ -71,12 +75,15 @@ pub(crate) enum Said {
     Made(Made),
 }
 
-// What changes something, and is no call at box or office.
+// What changes something, and is no call at box or office alone.
 pub(crate) enum Task {
     Many(u16),
     Room(usize),
     Fresh,
     Bus(Heard),
+    Restart(SessionId),
+    // In pieces of so many bytes.
+    Stream(Holder, usize),
 }
 
 pub(crate) enum Action {

@@ -8,5 +8,5 @@ pub(crate) type Page = [u8; LINE_LIMIT];
 
 pub(crate) type Output = [u8; 65536];
 
-// The frames kept of both ends, and the bytes that a line gives.
+// The frames kept of both ends, the bytes that a line gives, and a frame handed on.
 pub(crate) type Memory = [u8; MEMORY];

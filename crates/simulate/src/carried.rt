@@ -11,22 +11,36 @@ use crate::frames::End;
 use calls::Call;
 use text::DecimalRead;
 
+pub(crate) enum FrameRead {
+    Of(Range),
+    Wrong(Fault),
+}
+
 // to-box I, to-office I: frame i of those that the end wrote
 pub(crate) fn carried(writer: End, written: u64, s: &[u8], memory: &Memory) -> Asked {
-    match text::decimal(text::word(s)) {
-        DecimalRead::Of(i) => {
-            let bytes = frames::kept(memory, writer, written, i);
-            delivered(writer, bytes, text::after_word(s))
-        }
-        DecimalRead::NotDigits => asked::wrong(Fault::NotANumber),
-        DecimalRead::TooLarge => asked::wrong(Fault::NoSuchFrame),
+    match numbered(writer, written, text::word(s), memory) {
+        FrameRead::Of(bytes) => delivered(writer, bytes, text::after_word(s)),
+        FrameRead::Wrong(fault) => asked::wrong(fault),
     }
 }
 
-fn delivered(writer: End, bytes: Range, s: &[u8]) -> Asked {
-    if bytes.len == 0 {
-        return asked::wrong(Fault::NoSuchFrame);
+// The frame whose number a word writes.
+pub(crate) fn numbered(writer: End, written: u64, word: &[u8], memory: &Memory) -> FrameRead {
+    match text::decimal(word) {
+        DecimalRead::Of(i) => found(frames::kept(memory, writer, written, i)),
+        DecimalRead::NotDigits => FrameRead::Wrong(Fault::NotANumber),
+        DecimalRead::TooLarge => FrameRead::Wrong(Fault::NoSuchFrame),
     }
+}
+
+fn found(bytes: Range) -> FrameRead {
+    if bytes.len == 0 {
+        return FrameRead::Wrong(Fault::NoSuchFrame);
+    }
+    FrameRead::Of(bytes)
+}
+
+fn delivered(writer: End, bytes: Range, s: &[u8]) -> Asked {
     let call = match writer {
         End::Box => Call::OfficeFrame,
         End::Office => Call::BoxFrame,

@@ -1,9 +1,10 @@
 // The last frames that each end has written, each in a slot of its length and its bytes: the box's, then the office's. Behind
-// them stand the bytes that a line gives.
+// them stand the bytes that a line gives, and the frame that a receiver hands on.
 use crate::asked::Range;
 use crate::buffers::LINE_LIMIT;
 use crate::buffers::Memory;
 use link::FRAME_LIMIT;
+use wrapping::CONTENTS_MOST;
 
 const KEPT: u64 = 4096;
 
@@ -14,7 +15,10 @@ const HALF: usize = KEPT as usize * SLOT;
 // Where the bytes that a line gives begin.
 pub(crate) const GIVEN: usize = 2 * HALF;
 
-pub(crate) const MEMORY: usize = GIVEN + LINE_LIMIT;
+// Where the frame stands that a receiver hands on.
+pub(crate) const HANDED_ON: usize = GIVEN + LINE_LIMIT;
+
+pub(crate) const MEMORY: usize = HANDED_ON + CONTENTS_MOST;
 
 pub(crate) enum End {
     Box,

@@ -17,6 +17,7 @@ use crate::carried;
 use crate::encoding;
 use crate::frames::End;
 use crate::registers_named;
+use crate::streamed;
 use crate::world::Notes;
 use crate::world::ROOM_LIMIT;
 use calls::Call;
@@ -37,7 +38,7 @@ pub(crate) fn read(s: &[u8], notes: Notes, memory: &mut Memory) -> Asked {
         0 => carried::carried(End::Office, notes.office_frames, rest, memory),
         1 => carried::carried(End::Box, notes.box_frames, rest, memory),
         2 => restart(rest, notes.opened),
-        _ => with_number(name, rest, &mut *memory),
+        _ => with_number(name, rest, notes, &mut *memory),
     }
 }
 
@@ -49,13 +50,13 @@ enum OfficeCall {
     Open,
 }
 
-fn with_number(name: &[u8], s: &[u8], memory: &mut Memory) -> Asked {
+fn with_number(name: &[u8], s: &[u8], notes: Notes, memory: &mut Memory) -> Asked {
     match which(name, b"raise lower resend open") {
         0 => numbered(OfficeCall::Raise, u16::MAX as u64, s),
         1 => numbered(OfficeCall::Lower, u16::MAX as u64, s),
         2 => numbered(OfficeCall::Resend, u16::MAX as u64, s),
         3 => numbered(OfficeCall::Open, u32::MAX as u64, s),
-        _ => with_bytes(name, s, &mut *memory),
+        _ => of_stream(name, s, notes, &mut *memory),
     }
 }
 
@@ -77,6 +78,21 @@ fn call(of: OfficeCall, n: u64) -> Call {
         OfficeCall::Lower => Call::Issue(Ask::Lower(arguments::short(n))),
         OfficeCall::Resend => Call::Resend(OrderNumber(arguments::short(n))),
         OfficeCall::Open => Call::OpenSession(SessionId(arguments::long(n))),
+    }
+}
+
+fn of_stream(name: &[u8], s: &[u8], notes: Notes, memory: &mut Memory) -> Asked {
+    match which(
+        name,
+        b"stream stream-box stream-office pieces-box pieces-office wrap",
+    ) {
+        0 => streamed::stream(Holder::Bench, s, &mut *memory),
+        1 => streamed::stream(Holder::Box, s, &mut *memory),
+        2 => streamed::stream(Holder::Office, s, &mut *memory),
+        3 => streamed::pieces(End::Office, notes.office_frames, s, &mut *memory),
+        4 => streamed::pieces(End::Box, notes.box_frames, s, &mut *memory),
+        5 => streamed::wrap(s, &mut *memory),
+        _ => with_bytes(name, s, &mut *memory),
     }
 }
 
@@ -134,13 +150,17 @@ fn without_bytes(name: &[u8], s: &[u8]) -> Asked {
 }
 
 fn told(name: &[u8], s: &[u8]) -> Asked {
-    match which(name, b"show describe word held box-held office-held") {
+    match which(
+        name,
+        b"show describe word held box-held office-held dropped",
+    ) {
         0 => arguments::ended(Action::Say(Said::Told(Told::Show)), s),
         1 => arguments::ended(Action::Say(Said::Told(Told::Describe)), s),
         2 => arguments::ended(Action::Say(Said::Told(Told::Progress)), s),
         3 => registers_named::held(Holder::Bench, s),
         4 => registers_named::held(Holder::Box, s),
         5 => registers_named::held(Holder::Office, s),
+        6 => arguments::ended(Action::Say(Said::Told(Told::Dropped)), s),
         _ => asked::wrong(Fault::NotACall),
     }
 }
@@ -148,11 +168,11 @@ fn told(name: &[u8], s: &[u8]) -> Asked {
 // restart, or restart N
 fn restart(s: &[u8], opened: u32) -> Asked {
     if s.len() == 0 {
-        return asked::plain(Action::Call(Call::Restart(SessionId(opened))));
+        return asked::plain(Action::Task(Task::Restart(SessionId(opened))));
     }
     match arguments::number_of(text::word(s), u32::MAX as u64) {
         NumberRead::Of(n) => {
-            let action = Action::Call(Call::Restart(SessionId(arguments::long(n))));
+            let action = Action::Task(Task::Restart(SessionId(arguments::long(n))));
             arguments::ended(action, text::after_word(s))
         }
         NumberRead::Wrong(fault) => asked::wrong(fault),

@@ -17,6 +17,8 @@ mod perform;
 mod print;
 mod registers_named;
 mod show;
+mod streamed;
+mod streams;
 mod whole;
 mod world;
 
@@ -85,7 +87,7 @@ fn read(
                 world.notes = told;
             }
             Action::Task(task) => {
-                world = perform::perform(world, task, asked, memory, &mut *out);
+                world = perform::perform(world, task, asked, &mut *memory, &mut *out);
             }
             Action::Say(said) => {
                 let at = perform::say(&mut *out, world, said, asked, memory);

@@ -18,16 +18,20 @@ use crate::held;
 use crate::packets;
 use crate::print;
 use crate::show;
+use crate::streams;
 use crate::world;
 use crate::world::Notes;
 use crate::world::World;
+use calls::Call;
+use frame::SessionId;
 use settings::Settings;
+use wrapping::Receiver;
 
 pub(crate) fn perform(
     world: World,
     task: Task,
     asked: Asked,
-    memory: &Memory,
+    memory: &mut Memory,
     out: &mut Output,
 ) -> World {
     match task {
@@ -35,6 +39,15 @@ pub(crate) fn perform(
         Task::Room(n) => room(world, n, &mut *out),
         Task::Fresh => world::fresh(world::unwritten(ok(world.notes, &mut *out))),
         Task::Bus(heard) => bus(world, heard, asked::bytes(memory, asked.bytes), &mut *out),
+        Task::Restart(session) => restart(world, session, asked, &mut *memory, &mut *out),
+        Task::Stream(to, piece) => streams::stream(
+            world,
+            to,
+            piece,
+            asked.bytes,
+            &mut *memory,
+            &mut *out,
+        ),
     }
 }
 
@@ -64,6 +77,30 @@ fn bus(mut world: World, heard: Heard, bytes: &[u8], out: &mut Output) -> World 
     let heard_bytes = text::part(&sent, 0, bytes.len());
     let at = bench::told(&mut *out, world.notes.gathered, heard, heard_bytes);
     world.notes.gathered = at;
+    world
+}
+
+// restart, restart N
+fn restart(
+    mut world: World,
+    session: SessionId,
+    asked: Asked,
+    memory: &mut Memory,
+    out: &mut Output,
+) -> World {
+    let done = ends::call(
+        world.ends,
+        world.notes,
+        Call::Restart(session),
+        asked,
+        &mut *memory,
+        &mut *out,
+    );
+    let after = done.ends;
+    let notes = done.notes;
+    world.ends = after;
+    world.notes = notes;
+    world.receivers = streams::with_receiver(world.receivers, Holder::Box, Receiver::new());
     world
 }
 
@@ -99,6 +136,7 @@ fn tell(out: &mut Output, world: World, told: Told) -> usize {
             let said = held::held(&mut *out, at, settings_of(world, holder), register);
             print::end_line(&mut *out, said)
         }
+        Told::Dropped => streams::dropped(&mut *out, at, world.receivers.bench.dropped),
     }
 }
 
@@ -122,5 +160,6 @@ fn make(out: &mut Output, at: usize, made: Made, lent: Lent, bytes: &[u8]) -> us
             let said = encoding::decoded(&mut *out, at, bytes);
             print::end_line(&mut *out, said)
         }
+        Made::Wrapped(room) => streams::wrapped(&mut *out, at, room, bytes),
     }
 }

@@ -5,6 +5,7 @@ use link::FRAME_LIMIT;
 use session::Cab;
 use session::Ends;
 use session::Office;
+use wrapping::Receiver;
 
 // The longest output that `room` lends.
 pub(crate) const ROOM_LIMIT: usize = 512;
@@ -32,14 +33,22 @@ pub(crate) struct Notes {
     pub other: u64,
 }
 
-// Both ends of the link, and the controller on the bench.
+// Those on the bench and at each end.
+pub(crate) struct Receivers {
+    pub bench: Receiver,
+    pub cab: Receiver,
+    pub office: Receiver,
+}
+
+// Both ends of the link, the controller on the bench, and the receivers.
 pub(crate) struct World {
     pub ends: Ends,
     pub bench: Controller,
+    pub receivers: Receivers,
     pub notes: Notes,
 }
 
-// Both ends and the bench as at the start.
+// Both ends, the bench and the receivers as at the start.
 pub(crate) fn fresh(notes: Notes) -> World {
     World {
         ends: Ends {
@@ -47,6 +56,11 @@ pub(crate) fn fresh(notes: Notes) -> World {
             office: Office::new(),
         },
         bench: Controller::fresh(),
+        receivers: Receivers {
+            bench: Receiver::new(),
+            cab: Receiver::new(),
+            office: Receiver::new(),
+        },
         notes,
     }
 }
