@@ -27,17 +27,16 @@ pub(crate) fn carried(writer: End, written: u64, s: &[u8], memory: &Memory) -> A
 // The frame whose number a word writes.
 pub(crate) fn numbered(writer: End, written: u64, word: &[u8], memory: &Memory) -> FrameRead {
     match text::decimal(word) {
-        DecimalRead::Of(i) => found(frames::kept(memory, writer, written, i)),
+        DecimalRead::Of(i) => {
+            let bytes = frames::kept(memory, writer, written, i);
+            if bytes.len == 0 {
+                return FrameRead::Wrong(Fault::NoSuchFrame);
+            }
+            FrameRead::Of(bytes)
+        }
         DecimalRead::NotDigits => FrameRead::Wrong(Fault::NotANumber),
         DecimalRead::TooLarge => FrameRead::Wrong(Fault::NoSuchFrame),
     }
-}
-
-fn found(bytes: Range) -> FrameRead {
-    if bytes.len == 0 {
-        return FrameRead::Wrong(Fault::NoSuchFrame);
-    }
-    FrameRead::Of(bytes)
 }
 
 fn delivered(writer: End, bytes: Range, s: &[u8]) -> Asked {

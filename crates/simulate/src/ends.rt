@@ -11,6 +11,7 @@ use crate::world::Notes;
 use calls::Call;
 use frame::Ask;
 use frame::Frame;
+use frame::SessionId;
 use link::FRAME_LIMIT;
 use session::Ends;
 
@@ -86,6 +87,13 @@ fn noted(mut notes: Notes, active: bool, session: u32, gathered: usize) -> Notes
     }
     notes.opened = session;
     notes
+}
+
+// A restart of the box, which writes nothing.
+pub(crate) fn restarted(ends: Ends, session: SessionId) -> Ends {
+    let mut none = [0; FRAME_LIMIT];
+    let done = calls::run(ends, Call::Restart(session), b"", &mut none);
+    done.ends
 }
 
 // issue-many N: so many orders to raise by 0, each confirmed at once by an ACK.

@@ -38,7 +38,13 @@ pub(crate) fn read(s: &[u8], notes: Notes, memory: &mut Memory) -> Asked {
         0 => carried::carried(End::Office, notes.office_frames, rest, memory),
         1 => carried::carried(End::Box, notes.box_frames, rest, memory),
         2 => restart(rest, notes.opened),
-        _ => with_number(name, rest, notes, &mut *memory),
+        _ => with_number(
+            name,
+            rest,
+            notes.box_frames,
+            notes.office_frames,
+            &mut *memory,
+        ),
     }
 }
 
@@ -50,13 +56,19 @@ enum OfficeCall {
     Open,
 }
 
-fn with_number(name: &[u8], s: &[u8], notes: Notes, memory: &mut Memory) -> Asked {
+fn with_number(
+    name: &[u8],
+    s: &[u8],
+    box_frames: u64,
+    office_frames: u64,
+    memory: &mut Memory,
+) -> Asked {
     match which(name, b"raise lower resend open") {
         0 => numbered(OfficeCall::Raise, u16::MAX as u64, s),
         1 => numbered(OfficeCall::Lower, u16::MAX as u64, s),
         2 => numbered(OfficeCall::Resend, u16::MAX as u64, s),
         3 => numbered(OfficeCall::Open, u32::MAX as u64, s),
-        _ => of_stream(name, s, notes, &mut *memory),
+        _ => of_stream(name, s, box_frames, office_frames, &mut *memory),
     }
 }
 
@@ -81,7 +93,13 @@ fn call(of: OfficeCall, n: u64) -> Call {
     }
 }
 
-fn of_stream(name: &[u8], s: &[u8], notes: Notes, memory: &mut Memory) -> Asked {
+fn of_stream(
+    name: &[u8],
+    s: &[u8],
+    box_frames: u64,
+    office_frames: u64,
+    memory: &mut Memory,
+) -> Asked {
     match which(
         name,
         b"stream stream-box stream-office pieces-box pieces-office wrap",
@@ -89,8 +107,8 @@ fn of_stream(name: &[u8], s: &[u8], notes: Notes, memory: &mut Memory) -> Asked 
         0 => streamed::stream(Holder::Bench, s, &mut *memory),
         1 => streamed::stream(Holder::Box, s, &mut *memory),
         2 => streamed::stream(Holder::Office, s, &mut *memory),
-        3 => streamed::pieces(End::Office, notes.office_frames, s, &mut *memory),
-        4 => streamed::pieces(End::Box, notes.box_frames, s, &mut *memory),
+        3 => streamed::pieces(Holder::Box, End::Office, office_frames, s, &mut *memory),
+        4 => streamed::pieces(Holder::Office, End::Box, box_frames, s, &mut *memory),
         5 => streamed::wrap(s, &mut *memory),
         _ => with_bytes(name, s, &mut *memory),
     }

@@ -22,7 +22,6 @@ use crate::streams;
 use crate::world;
 use crate::world::Notes;
 use crate::world::World;
-use calls::Call;
 use frame::SessionId;
 use settings::Settings;
 use wrapping::Receiver;
@@ -39,12 +38,12 @@ pub(crate) fn perform(
         Task::Room(n) => room(world, n, &mut *out),
         Task::Fresh => world::fresh(world::unwritten(ok(world.notes, &mut *out))),
         Task::Bus(heard) => bus(world, heard, asked::bytes(memory, asked.bytes), &mut *out),
-        Task::Restart(session) => restart(world, session, asked, &mut *memory, &mut *out),
+        Task::Restart(session) => restart(world, session, &mut *out),
         Task::Stream(to, piece) => streams::stream(
             world,
             to,
             piece,
-            asked.bytes,
+            asked.bytes.len,
             &mut *memory,
             &mut *out,
         ),
@@ -81,25 +80,9 @@ fn bus(mut world: World, heard: Heard, bytes: &[u8], out: &mut Output) -> World 
 }
 
 // restart, restart N
-fn restart(
-    mut world: World,
-    session: SessionId,
-    asked: Asked,
-    memory: &mut Memory,
-    out: &mut Output,
-) -> World {
-    let done = ends::call(
-        world.ends,
-        world.notes,
-        Call::Restart(session),
-        asked,
-        &mut *memory,
-        &mut *out,
-    );
-    let after = done.ends;
-    let notes = done.notes;
-    world.ends = after;
-    world.notes = notes;
+fn restart(mut world: World, session: SessionId, out: &mut Output) -> World {
+    world.ends = ends::restarted(world.ends, session);
+    world.notes = ok(world.notes, &mut *out);
     world.receivers = streams::with_receiver(world.receivers, Holder::Box, Receiver::new());
     world
 }

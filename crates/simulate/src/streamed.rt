@@ -40,14 +40,20 @@ pub(crate) fn stream(to: Holder, s: &[u8], memory: &mut Memory) -> Asked {
 }
 
 // pieces-box I N, pieces-office I N: frame i of those that the end wrote
-pub(crate) fn pieces(writer: End, written: u64, s: &[u8], memory: &mut Memory) -> Asked {
+pub(crate) fn pieces(
+    to: Holder,
+    writer: End,
+    written: u64,
+    s: &[u8],
+    memory: &mut Memory,
+) -> Asked {
     match carried::numbered(writer, written, text::word(s), memory) {
-        FrameRead::Of(frame) => in_pieces(writer, frame, text::after_word(s), &mut *memory),
+        FrameRead::Of(frame) => in_pieces(to, frame, text::after_word(s), &mut *memory),
         FrameRead::Wrong(fault) => asked::wrong(fault),
     }
 }
 
-fn in_pieces(writer: End, frame: Range, s: &[u8], memory: &mut Memory) -> Asked {
+fn in_pieces(to: Holder, frame: Range, s: &[u8], memory: &mut Memory) -> Asked {
     match arguments::number_of(text::word(s), LONGEST) {
         NumberRead::Of(n) => {
             if n == 0 {
@@ -57,19 +63,12 @@ fn in_pieces(writer: End, frame: Range, s: &[u8], memory: &mut Memory) -> Asked 
                 return asked::wrong(Fault::TooManyWords);
             }
             Asked {
-                action: Action::Task(Task::Stream(reader(writer), n as usize)),
+                action: Action::Task(Task::Stream(to, n as usize)),
                 bytes: wrapped(frame, &mut *memory),
                 lent: Lent::Room,
             }
         }
         NumberRead::Wrong(fault) => asked::wrong(fault),
-    }
-}
-
-fn reader(writer: End) -> Holder {
-    match writer {
-        End::Box => Holder::Office,
-        End::Office => Holder::Box,
     }
 }
 

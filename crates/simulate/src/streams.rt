@@ -1,4 +1,5 @@
 // Frames over a stream: wrapped, and bytes given to a receiver.
+use crate::asked;
 use crate::asked::Action;
 use crate::asked::Asked;
 use crate::asked::Holder;
@@ -8,13 +9,13 @@ use crate::buffers::Memory;
 use crate::buffers::Output;
 use crate::ends;
 use crate::ends::Called;
+use crate::frames::GIVEN;
 use crate::frames::HANDED_ON;
 use crate::lending;
 use crate::print;
 use crate::world::Notes;
 use crate::world::Receivers;
 use crate::world::World;
-use base::Refusal;
 use base::Written;
 use calls::Call;
 use session::Ends;
@@ -44,10 +45,9 @@ pub(crate) fn dropped(out: &mut Output, at: usize, count: u32) -> usize {
     print::with(&mut *out, at, b"dropped _\n", &n)
 }
 
-// What changes while a receiver takes a line's bytes; the next one stands at `at`.
+// What changes while a receiver takes the bytes that a line gives: those before `at` are taken.
 struct Flow {
-    ends: Ends,
-    notes: Notes,
+    called: Called,
     receiver: Receiver,
     at: usize,
 }
@@ -57,32 +57,26 @@ pub(crate) fn stream(
     mut world: World,
     to: Holder,
     piece: usize,
-    bytes: Range,
+    len: usize,
     memory: &mut Memory,
     out: &mut Output,
 ) -> World {
-    let start = begun(
-        world.ends,
-        world.notes,
-        receiver_of(world.receivers, to),
-        bytes.from,
-    );
-    let flow = taken(start, to, piece, bytes, &mut *memory, &mut *out);
-    let after = flow.ends;
-    let notes = flow.notes;
-    let receiver = flow.receiver;
+    let start = begun(world.ends, world.notes, receiver_of(world.receivers, to));
+    let flow = taken(start, to, piece, len, &mut *memory, &mut *out);
+    let called = flow.called;
+    let after = called.ends;
+    let notes = called.notes;
     world.ends = after;
     world.notes = notes;
-    world.receivers = with_receiver(world.receivers, to, receiver);
+    world.receivers = with_receiver(world.receivers, to, flow.receiver);
     world
 }
 
-fn begun(ends: Ends, notes: Notes, receiver: Receiver, at: usize) -> Flow {
+fn begun(ends: Ends, notes: Notes, receiver: Receiver) -> Flow {
     Flow {
-        ends,
-        notes,
+        called: Called { ends, notes },
         receiver,
-        at,
+        at: 0,
     }
 }
 
@@ -114,15 +108,20 @@ fn taken(
     start: Flow,
     to: Holder,
     piece: usize,
-    bytes: Range,
+    len: usize,
     memory: &mut Memory,
     out: &mut Output,
 ) -> Flow {
-    let end = std::num::wrapping_add_usize(bytes.from, bytes.len);
-    let mut flow = call(start, to, piece, bytes, &mut *memory, &mut *out);
-    while flow.at < end {
+    let mut flow = call(start, to, piece_end(0, piece, len), &mut *memory, &mut *out);
+    while flow.at < len {
         let before = flow.at;
-        flow = call(flow, to, piece, bytes, &mut *memory, &mut *out);
+        flow = call(
+            flow,
+            to,
+            piece_end(before, piece, len),
+            &mut *memory,
+            &mut *out,
+        );
         // never so: the test shows that the loop ends
         if flow.at <= before {
             return flow;
@@ -131,119 +130,107 @@ fn taken(
     flow
 }
 
-// Where the next outcome is told. Each one ends in a newline, which gives way where another follows.
-fn joined(out: &mut Output, notes: Notes) -> usize {
-    let at = notes.gathered;
-    if at <= notes.answer {
-        return at;
-    }
-    print::all(&mut *out, std::num::wrapping_sub_usize(at, 1), b" / ")
-}
-
-// The place behind the piece in which the next byte stands.
-fn piece_end(at: usize, piece: usize, bytes: Range) -> usize {
-    let end = std::num::wrapping_add_usize(bytes.from, bytes.len);
+// The end of the piece in which the next byte stands.
+fn piece_end(at: usize, piece: usize, len: usize) -> usize {
     if piece == 0 {
-        return end;
+        return len;
     }
-    let gone = std::num::wrapping_sub_usize(at, bytes.from) % piece;
-    let next = std::num::wrapping_add_usize(at, std::num::wrapping_sub_usize(piece, gone));
-    if next < end {
+    let next = std::num::wrapping_add_usize(at, std::num::wrapping_sub_usize(piece, at % piece));
+    if next < len {
         return next;
     }
-    end
+    len
 }
 
 // One call of the receiver; a frame goes on to its end.
-fn call(
-    flow: Flow,
-    to: Holder,
-    piece: usize,
-    bytes: Range,
-    memory: &mut Memory,
-    out: &mut Output,
-) -> Flow {
-    let at = flow.at;
-    let given = text::part(memory, at, piece_end(at, piece, bytes));
-    let received = stream::receive(flow.receiver, given);
-    let notes = told(flow.notes, received, &mut *out);
-    let done = handed_on(flow.ends, notes, received, to, &mut *memory, &mut *out);
-    let ends = done.ends;
-    let after = done.notes;
+fn call(mut flow: Flow, to: Holder, end: usize, memory: &mut Memory, out: &mut Output) -> Flow {
+    let given = asked::bytes(
+        memory,
+        Range {
+            from: GIVEN,
+            len: end,
+        },
+    );
+    let received = stream::receive(flow.receiver, number::rest(given, flow.at));
+    let called = outcome(flow.called, received, to, &mut *memory, &mut *out);
     let receiver = received.receiver;
-    Flow {
-        ends,
-        notes: after,
-        receiver,
-        at: std::num::wrapping_add_usize(at, received.took),
-    }
+    flow.called = called;
+    flow.receiver = receiver;
+    flow.at = std::num::wrapping_add_usize(flow.at, received.took);
+    flow
 }
 
-// What came.
-fn told(mut notes: Notes, received: Received, out: &mut Output) -> Notes {
-    let event = received.event;
-    let n = [received.took as u64];
-    let start = joined(&mut *out, notes);
-    let said = print::with(&mut *out, start, b"took _", &n);
-    notes.gathered = match event {
-        Event::Nothing => said,
-        Event::Frame(len) => frame(&mut *out, said, received.receiver, len),
-        Event::Refused(r) => refused(&mut *out, said, r),
-    };
-    notes
-}
-
-fn frame(out: &mut Output, at: usize, receiver: Receiver, len: usize) -> usize {
-    let buffer = receiver.buffer;
-    let said = print::all(&mut *out, at, b" frame");
-    print::bytes(&mut *out, said, text::part(&buffer, 0, len))
-}
-
-fn refused(out: &mut Output, at: usize, refusal: Refusal) -> usize {
-    let said = print::all(&mut *out, at, b" ");
-    print::refused(&mut *out, said, refusal.number())
-}
-
-// A frame goes to the end's call, and its answer behind what came; the receiver on the bench has no end.
-fn handed_on(
-    ends: Ends,
-    notes: Notes,
+// What came is told. A frame is handed on to the end's call; the receiver on the bench has no end.
+fn outcome(
+    mut called: Called,
     received: Received,
     to: Holder,
     memory: &mut Memory,
     out: &mut Output,
 ) -> Called {
+    let at = told(
+        called.notes.answer,
+        called.notes.gathered,
+        received,
+        &mut *memory,
+        &mut *out,
+    );
+    called.notes.gathered = at;
     let event = received.event;
     let Event::Frame(len) = event else {
-        return line_ended(ends, notes, &mut *out);
+        return called;
     };
-    keep(received.receiver, &mut *memory);
     match to {
-        Holder::Bench => line_ended(ends, notes, &mut *out),
-        Holder::Box => at_end(ends, notes, Call::BoxFrame, len, &mut *memory, &mut *out),
-        Holder::Office => at_end(ends, notes, Call::OfficeFrame, len, &mut *memory, &mut *out),
+        Holder::Bench => called,
+        Holder::Box => answered(called, Call::BoxFrame, len, &mut *memory, &mut *out),
+        Holder::Office => answered(called, Call::OfficeFrame, len, &mut *memory, &mut *out),
     }
 }
 
-fn line_ended(ends: Ends, mut notes: Notes, out: &mut Output) -> Called {
-    notes.gathered = print::end_line(&mut *out, notes.gathered);
-    Called { ends, notes }
+// Words in the place of the newline that stands before.
+fn instead(out: &mut Output, at: usize, words: &[u8]) -> usize {
+    print::all(&mut *out, std::num::wrapping_sub_usize(at, 1), words)
 }
 
-fn keep(receiver: Receiver, memory: &mut Memory) {
-    let buffer = receiver.buffer;
-    base::store(&buffer, &mut *memory, HANDED_ON);
+// Behind the outcomes before it, if any, and a newline behind it. A frame is kept where a call finds it.
+fn told(
+    answer: usize,
+    at: usize,
+    received: Received,
+    memory: &mut Memory,
+    out: &mut Output,
+) -> usize {
+    let n = [received.took as u64];
+    let event = received.event;
+    let buffer = received.receiver.buffer;
+    let mut said = at;
+    if answer < at {
+        said = instead(&mut *out, at, b" / ");
+    }
+    let took = print::with(&mut *out, said, b"took _", &n);
+    match event {
+        Event::Nothing => print::end_line(&mut *out, took),
+        Event::Frame(len) => {
+            base::store(&buffer, &mut *memory, HANDED_ON);
+            print::named_bytes(&mut *out, took, b" frame", text::part(&buffer, 0, len))
+        }
+        Event::Refused(r) => {
+            let n = [r.number() as u64];
+            print::with(&mut *out, took, b" refused _\n", &n)
+        }
+    }
 }
 
-fn at_end(
-    ends: Ends,
-    mut notes: Notes,
+// The frame's call, and its answer behind the frame.
+fn answered(
+    mut called: Called,
     call: Call,
     len: usize,
     memory: &mut Memory,
     out: &mut Output,
 ) -> Called {
-    notes.gathered = print::all(&mut *out, notes.gathered, b": ");
+    let at = instead(&mut *out, called.notes.gathered, b": ");
+    called.notes.gathered = at;
     let asked = Asked {
         action: Action::Call(call),
         bytes: Range {
@@ -252,5 +239,12 @@ fn at_end(
         },
         lent: Lent::Room,
     };
-    ends::call(ends, notes, call, asked, &mut *memory, &mut *out)
+    ends::call(
+        called.ends,
+        called.notes,
+        call,
+        asked,
+        &mut *memory,
+        &mut *out,
+    )
 }

@@ -4,19 +4,22 @@ use Rattle.simulate.proofs.streams.taken.Statement.{statement}
 use Rattle.simulate.proofs.streams.taken.Tie as tie
 
 abbrev Inv-loop : tie.InvT-loop
-Inv-loop to piece bytes memory₀ out₀ end flow₀ memory out flow = Unit {0}
+Inv-loop to piece len memory₀ out₀ flow₀ memory out flow = Unit {0}
 
 abbrev μ-loop : tie.MeasureT-loop
-μ-loop to piece bytes memory₀ out₀ end flow₀ memory out flow = 18446744073709551616 - flow .at
+μ-loop to piece len memory₀ out₀ flow₀ memory out flow = 18446744073709551616 - flow .at
 
-wrapping-add-usize-requires : tie.Need-wrapping-add-usize-requires Inv-loop μ-loop
-wrapping-add-usize-requires c κs = search needs
+piece-end-requires : tie.Need-piece-end-requires Inv-loop μ-loop
+piece-end-requires c κs = search needs
 
 call-requires : tie.Need-call-requires Inv-loop μ-loop
 call-requires c κs = search needs
 
 loop-holds : tie.Need-loop-holds Inv-loop μ-loop
 loop-holds c = search needs
+
+piece-end-requires-2 : tie.Need-piece-end-requires-2 Inv-loop μ-loop
+piece-end-requires-2 c κs = search needs
 
 call-requires-2 : tie.Need-call-requires-2 Inv-loop μ-loop
 call-requires-2 c κs = search needs
@@ -39,9 +42,10 @@ taken-spec =
     (tie.spec
     Inv-loop
     μ-loop
-    wrapping-add-usize-requires
+    piece-end-requires
     call-requires
     loop-holds
+    piece-end-requires-2
     call-requires-2
     returns
     loop-less
