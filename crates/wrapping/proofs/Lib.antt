@@ -3,3 +3,4 @@ pub mod ReceiverLaws
 pub mod ReadingLaws
 pub mod FieldLaws
 pub mod StreamTheorems
+pub mod Rows

@@ -6,12 +6,13 @@ use mathlib.Core.Bool.{cond, _&&_}
 use mathlib.Core.List.{List, [], _∷_, _++_, map, flatMap, flatten, List·Memᴰ}
 use lib.ListN.{length, take}
 use lib.Dec.{leb}
+use Rattle.base.specs.Bytes.{Bytes}
 use Rattle.base.specs.Result.{accepted}
 use Rattle.wrapping.specs.declared.Place.the-variants.{Tag}
 use Rattle.wrapping.specs.declared.Received.{Received}
 use Rattle.wrapping.specs.declared.Receiver.{Receiver}
 use Rattle.wrapping.specs.Wrapping.{contents-most, wrapped, wrapping}
-use Rattle.wrapping.specs.Receiver.{dropped-most, receive}
+use Rattle.wrapping.specs.Receiver.{receive}
 use Rattle.wrapping.specs.Reading.{Handed, frame, refused, came, read, given, given-all}
 
 -- a host's calls of `receive` on a piece come to its bytes, one by one
@@ -39,6 +40,10 @@ tag = 0x01
 
 abbrev pub longest : ℕ
 longest = 64
+
+-- where the count stops
+abbrev pub count-most : ℕ
+count-most = 4294967295
 
 -- what two bytes tell
 abbrev pub InTwoBytes : ℕ → Type 0
@@ -83,10 +88,28 @@ dropped-of (item ∷ items) = item-dropped item + dropped-of items
 pub record RowRead (r : Receiver) (row : List Item) : Type 0 where
   pub handed : given r (flatMap item-bytes row) .handed ≡ flatMap item-handed row
   pub at-tag : AtTag (given r (flatMap item-bytes row) .receiver)
-  pub dropped : given r (flatMap item-bytes row) .receiver .dropped ≡ min (r .dropped + dropped-of row) dropped-most
+  pub dropped : given r (flatMap item-bytes row) .receiver .dropped ≡ min (r .dropped + dropped-of row) count-most
 
 abbrev pub RowsRead : Type 0
-RowsRead = (r : Receiver) → AtTag r → r .dropped ≤ dropped-most → (row : List Item) → ((item : Item) → List·Memᴰ item row → Proper item) → RowRead r row
+RowsRead = (r : Receiver) → AtTag r → r .dropped ≤ count-most → (row : List Item) → ((item : Item) → List·Memᴰ item row → Proper item) → RowRead r row
+
+-- every run of bytes is such a row, and behind it nothing or the beginning of one more field
+pub record Unfinished (bytes : List ℕ) : Type 0 where
+  pub contents : List ℕ
+  pub proper : Proper (field contents)
+  pub missing : List ℕ
+  pub some-missing : 1 ≤ length missing
+  pub joined : bytes ++ missing ≡ item-bytes (field contents)
+
+pub record Parted (bytes : List ℕ) : Type 0 where
+  pub row : List Item
+  pub proper : (item : Item) → List·Memᴰ item row → Proper item
+  pub rest : List ℕ
+  pub unfinished : (rest ≡ []) ⊎ Unfinished rest
+  pub joined : flatMap item-bytes row ++ rest ≡ bytes
+
+abbrev pub EveryRun : Type 0
+EveryRun = (bytes : List ℕ) → Bytes bytes → Parted bytes
 
 -- wrapped frames of 1 to 64 bytes come out unchanged, each once and in order; nothing is refused or dropped, and then a tag should stand again
 pub record Through (r : Receiver) (frames : List (List ℕ)) : Type 0 where
