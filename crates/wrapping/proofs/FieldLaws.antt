@@ -27,12 +27,12 @@ use Rattle.wrapping.proofs.ReadingLaws.{receive-read}
 abbrev pub standing : Place → List ℕ → ℕ → Receiver
 standing place buffer dropped = record { place = place; buffer = buffer; dropped = dropped }
 
-unfit : (n : ℕ) → BadLength n → fits n ≡ false
+pub unfit : (n : ℕ) → BadLength n → fits n ≡ false
 unfolding fits
 unfit n (inl none) = rw (eq-eqb n 0 none)
 unfit n (inr many) = cond-cases (λ (t : Bool). t ≡ false) (eqb n 0) false (leb n contents-most) (λ _. refl) (λ _. lt-leb n contents-most many)
 
-fit : (n : ℕ) → 1 ≤ n → n ≤ contents-most → fits n ≡ true
+pub fit : (n : ℕ) → 1 ≤ n → n ≤ contents-most → fits n ≡ true
 unfolding fits
 fit n some-bytes small = rw (ne-eqb n 0 (omega arith)) (le-leb n contents-most small)
 

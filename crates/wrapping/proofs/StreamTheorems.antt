@@ -8,7 +8,7 @@ use mathlib.Core.List.{List, [], _∷_, _++_, map, flatMap, List·Memᴰ, List·
 use lib.ListN.{length}
 use lib.Seq.{sets, length-sets, take-append-seam}
 use lib.Dec.{leb, ltb}
-use borrow.Author.Tests.{ltb-true, ltb-false, leb-true, leb-false}
+use borrow.Author.Tests.{lt-ltb, le-ltb, ltb-true, ltb-false, leb-true, leb-false}
 use Rattle.base.specs.Result.{Result, accepted}
 use Rattle.base.proofs.Lists.{sets-front}
 use Rattle.base.proofs.Tests.{cond-cases}
@@ -20,9 +20,9 @@ use Rattle.wrapping.specs.Wrapping.{contents-most, fits, wrapped, wrappi
 use Rattle.wrapping.specs.Receiver.{dropped-most, counted, receive}
 use Rattle.wrapping.specs.Reading.{Handed, frame, refused, Reading, earlier, read}
 use Rattle.wrapping.specs.Theorems.{AtTag, Item, stray, field, field-head, item-bytes, Proper, item-handed}
-use Rattle.wrapping.specs.Theorems.{item-dropped, dropped-of, RowsRead, Wrappable, ThroughUnchanged, BadLength, BadLengthSkips, WrapTaken, LengthRefused}
+use Rattle.wrapping.specs.Theorems.{item-dropped, dropped-of, RowsRead, Wrappable, ThroughUnchanged, BadLength, BadLengthSkips, WrapAnswers, WrapTaken, LengthRefused}
 use Rattle.wrapping.proofs.WrappingLaws.{fits-within}
-use Rattle.wrapping.proofs.FieldLaws.{standing, length-received, frame-received, bad-read, frame-read, stray-read}
+use Rattle.wrapping.proofs.FieldLaws.{standing, unfit, fit, length-received, frame-received, bad-read, frame-read, stray-read}
 use Rattle.wrapping.proofs.ReadingLaws.{read-append, given-reads}
 
 -- a receiver where a tag should stand, taken apart
@@ -139,6 +139,14 @@ rows-read r at most row each =
     }
 
 -- ---- one call
+
+pub wrap-answers : WrapAnswers
+unfolding wrapping
+wrap-answers f room = record {
+  bad = λ b. rw (unfit (length f) b);
+  short = λ (some-bytes, small) less. rw (fit (length f) some-bytes small, wrapped-field f (some-bytes, small), lt-ltb _ _ less);
+  written = λ (some-bytes, small) enough. rw (fit (length f) some-bytes small, wrapped-field f (some-bytes, small), le-ltb _ _ enough);
+}
 
 wrap-wrote : (f bytes : List ℕ) (room : ℕ) → wrapping f room ≡ accepted bytes → Wrappable f × (bytes ≡ wrapped f)
 unfolding wrapping

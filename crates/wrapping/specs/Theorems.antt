@@ -7,6 +7,7 @@ use mathlib.Core.List.{List, [], _∷_, _++_, map, flatMap, flatten, List·Mem�
 use lib.ListN.{length, take}
 use lib.Dec.{leb}
 use Rattle.base.specs.Bytes.{Bytes}
+use Rattle.base.specs.Result as result
 use Rattle.base.specs.Result.{accepted}
 use Rattle.wrapping.specs.declared.Place.the-variants.{Tag}
 use Rattle.wrapping.specs.declared.Received.{Received}
@@ -131,6 +132,15 @@ abbrev pub BadLengthSkips : Type 0
 BadLengthSkips =
     (r : Receiver) → AtTag r → (contents : List ℕ) → BadLength (length contents) → InTwoBytes (length contents) →
     given r (field-head (length contents) ++ contents) ≡ record { receiver = r; handed = refused 4 ∷ [] }
+
+-- the wrapping call: 2 for a bad length, then 1 for a short output; else tag, length and frame
+pub record WrapAnswer (f : List ℕ) (room : ℕ) : Type 0 where
+  pub bad : BadLength (length f) → wrapping f room ≡ result.refused 2
+  pub short : Wrappable f → room < length (item-bytes (field f)) → wrapping f room ≡ result.refused 1
+  pub written : Wrappable f → length (item-bytes (field f)) ≤ room → wrapping f room ≡ accepted (item-bytes (field f))
+
+abbrev pub WrapAnswers : Type 0
+WrapAnswers = (f : List ℕ) (room : ℕ) → WrapAnswer f room
 
 -- ---- one call takes the bytes up to and with the one that completes a frame or a refusal, whatever follows
 
