@@ -4,5 +4,6 @@ mod refusal;
 mod written;
 
 pub use place::store;
+pub use refusal::FrameFault;
 pub use refusal::Refusal;
 pub use written::Written;

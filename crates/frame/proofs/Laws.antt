@@ -1,21 +1,17 @@
--- The structs and their meanings, and the verdict on a change.
-use Prim.Native.Nat.{ℕ, min}
+-- The structs and their meanings.
+use Prim.Native.Nat.{min}
 use native.Mathlib.Omega.{arith}
-use mathlib.Core.Path.{_≡_, refl, sym, ap, _∙_}
-use mathlib.Core.Bool.{Bool, true, false, cond}
-use mathlib.Core.Option.{Option, none, some, Option·none-ne-some}
+use mathlib.Core.Path.{_≡_, refl, ap}
+use mathlib.Core.Bool.{Bool, true, false}
+use mathlib.Core.Option.{none, some}
 use lib.ListN.{length, take, drop, replicate}
 use lib.Seq.{take-append-seam, take-all}
 use lib.Dec.{leb}
 use borrow.Author.Tests.{leb-true, leb-false}
-use Rattle.base.specs.Refusal.{number}
-use Rattle.base.specs.declared.refusal.Refusal.{Refusal}
 use Rattle.frame.specs.declared.frame.Change.{Change as ChangeStruct}
-use Rattle.frame.specs.declared.verdict.Verdict.{Verdict}
-use Rattle.frame.specs.declared.verdict.Verdict.the-variants.{Accepted, Refused}
-use Rattle.frame.specs.Frame.{data-limit, Change, command, raise, lower, too-long, opening, welcome, order, ack, refuse}
+use Rattle.frame.specs.Frame.{data-limit, Change, command, raise, lower, opening, welcome, order, ack, refuse}
 use Rattle.frame.specs.Theorems.{MeaningFrameOf}
-use Rattle.frame.specs.View.{asked, change-of, refusal-of, change-refusal}
+use Rattle.frame.specs.View.{asked, change-of}
 
 pub asked-change-of : (c : Change) → asked (change-of c) ≡ c
 asked-change-of (command k d) = ap (command k) (take-append-seam d (drop (length d) (replicate data-limit 0)))
@@ -38,19 +34,3 @@ data-taken c long = by-cases (leb (c .count) data-limit) refl
     by-cases false e =
         let cut : min (c .count) data-limit ≡ data-limit = omega (arith, leb-false (c .count) data-limit e) in
         rw (cut, take-all data-limit (c .body) (omega arith), take-all (c .count) (c .body) (omega (arith, leb-false (c .count) data-limit e)))
-
--- the verdict on a change tells whether it is too long
-module _ (c : Change) (v : Verdict) (told : refusal-of v ≡ change-refusal c) where
-  pub change-taken : v ≡ Accepted → too-long c ≡ false
-  change-taken e = by-cases (too-long c) (sym (ap refusal-of e) ∙ told)
-    where
-      by-cases : (x : Bool) → none ≡ cond {A = Option ℕ} x (some 2) none → x ≡ false
-      by-cases true h = absurd (Option·none-ne-some 2 h)
-      by-cases false h = refl
-
-  pub change-refused : (why : Refusal) → v ≡ Refused why → too-long c ≡ true
-  change-refused why e = by-cases (too-long c) (sym told ∙ ap refusal-of e)
-    where
-      by-cases : (x : Bool) → cond x (some 2) none ≡ some (number why) → x ≡ true
-      by-cases true h = refl
-      by-cases false h = absurd (Option·none-ne-some (number why) h)

@@ -4,7 +4,7 @@ use mathlib.Core.Bool.{cond}
 use mathlib.Core.List.{List}
 use mathlib.Core.Option.{Option, none, some}
 use lib.ListN.{length, take, replicate}
-use Rattle.base.specs.Refusal.{number}
+use Rattle.base.specs.Refusal.{Told, plain, told}
 use Rattle.base.specs.Lent.{overwritten}
 use Rattle.settings.specs.Settings.{fresh}
 use Rattle.settings.specs.declared.settings.Settings.{Settings}
@@ -60,16 +60,16 @@ frame-of (some (order s n c)) = framed Order s n (change-of c) fresh
 frame-of (some (ack s k)) = bare Ack s k
 frame-of (some (refuse s r)) = bare (Refuse r) s 0
 
--- ---- a verdict's refusal, if there is one
+-- ---- what a verdict tells of a refusal, if it is one
 
-abbrev pub refusal-of : Verdict → Option ℕ
+abbrev pub refusal-of : Verdict → Option Told
 refusal-of Accepted = none
-refusal-of (Refused r) = some (number r)
+refusal-of (Refused r) = some (told r)
 
 -- ---- a change asked for: refused where it has more data than an ORDER can carry, and then a raise by 0
 
-abbrev pub change-refusal : Change → Option ℕ
-change-refusal c = cond (too-long c) (some 2) none
+abbrev pub change-refusal : Change → Option Told
+change-refusal c = cond (too-long c) (some (plain 2)) none
 
 abbrev pub change-made : Change → Change
 change-made c = cond (too-long c) (raise 0) c

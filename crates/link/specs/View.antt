@@ -7,6 +7,7 @@ use mathlib.Core.Option.{Option, none, some}
 use lib.ListN.{length, take, replicate}
 use lib.Dec.{ltb}
 use Rattle.base.specs.Lent.{overwritten}
+use Rattle.base.specs.Refusal.{Told, plain}
 use Rattle.registers.specs.Block.{block-length}
 use Rattle.link.specs.declared.encoded.Encoded.{Encoded}
 use Rattle.link.specs.declared.encoded.Sent.{Sent}
@@ -34,8 +35,8 @@ encoded l = record { bytes = overwritten l (replicate frame-limit 0); len = leng
 unfoldable pub sent-bytes : List ℕ → ℕ → List ℕ
 sent-bytes bytes room = cond (ltb room (length bytes)) [] bytes
 
-unfoldable pub sent-refusal : List ℕ → ℕ → Option ℕ
-sent-refusal bytes room = cond (ltb room (length bytes)) (some 1) none
+unfoldable pub sent-refusal : List ℕ → ℕ → Option Told
+sent-refusal bytes room = cond (ltb room (length bytes)) (some (plain 1)) none
 
 -- what a call returned, and made of its lent output: the verdict's number, the length and every byte
 pub record Sends (bytes : List ℕ) (r : Sent) (before after : List ℕ) : Type 0 where

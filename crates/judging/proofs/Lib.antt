@@ -1,0 +1,6 @@
+pub mod Fields
+pub mod Valid
+pub mod Damaged
+pub mod Exact
+pub mod Least
+pub mod Agreement

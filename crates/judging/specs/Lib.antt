@@ -1,0 +1,4 @@
+pub mod Decoding
+pub mod Faults
+pub mod Theorems
+pub mod View
