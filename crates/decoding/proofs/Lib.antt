@@ -1,1 +1,3 @@
+pub mod Same
+pub mod Fields
 pub mod Reading

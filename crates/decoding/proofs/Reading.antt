@@ -1,72 +1,44 @@
--- What the code reads and keeps.
-use Prim.Native.Nat.{ℕ, _<_, _+_, _≤_}
-use native.Mathlib.Omega.{arith}
-use mathlib.Core.Path.{_≡_, refl, sym, ap, _∙_}
-use mathlib.Core.Bool.{Bool, true, false, cond, _&&_, and-false}
-use mathlib.Core.List.{List, [], _∷_}
-use mathlib.Core.Option.{Option, none, some}
-use lib.ListN.{length, getD, drop, drop-of-length-le}
-use lib.Dec.{eqb}
-use borrow.Author.Tests.{eq-eqb, ne-eqb}
-use Rattle.base.proofs.Lists.{drop-more}
+-- The frame read, where no fault is told: its struct can hold it.
+use Prim.Native.Nat.{ℕ}
+use mathlib.Core.Path.{_≡_, refl}
+use mathlib.Core.Bool.{false}
+use mathlib.Core.List.{List}
+use mathlib.Core.Option.{none, some}
+use Rattle.base.specs.Bytes.{Bytes}
+use Rattle.base.specs.Refusal.{Fault}
 use Rattle.frame.specs.declared.frame.Frame.{Frame as FrameStruct}
-use Rattle.frame.specs.Frame.{Frame, opening, welcome, order, ack, refuse, too-long}
-use Rattle.link.specs.Encoding.{same, accepted, promised, decode}
+use Rattle.frame.specs.Frame.{Frame, opening, welcome, order, ack, refuse}
+use Rattle.frame.specs.View.{frame-of, meaning}
 use Rattle.frame.proofs.Laws.{meaning-frame-of}
-use Rattle.decoding.specs.Steps.{held, allowed-of}
-use Rattle.frame.specs.View.{meaning, frame-of}
-use Rattle.link.specs.View.{encoding-of}
+use Rattle.link.specs.Steps.{frame-too-long}
+use Rattle.link.proofs.FrameTheorems.{valid-short}
+use Rattle.judging.specs.declared.End.{End}
+use Rattle.judging.specs.Decoding.{a-fault, a-frame, fault-told, frame-in, decode}
+use Rattle.judging.specs.View.{fault-in, frame-read}
+use Rattle.judging.proofs.Exact.{decode-exact}
+use Rattle.decoding.specs.Steps.{carried}
 
--- ---- two lists compared from an index on
+carried-short : (f : Frame) → frame-too-long f ≡ false → carried f ≡ f
+carried-short (opening s) e = refl
+carried-short (welcome s σ) e = refl
+carried-short (order s n c) e = rw e
+carried-short (ack s k) e = refl
+carried-short (refuse s r) e = refl
 
-module _ (a b : List ℕ) (i : ℕ) (ha : i < length a) (hb : i < length b) where
-  pub same-next : getD a i 0 ≡ getD b i 0 → same (drop i a) (drop i b) ≡ same (drop (i + 1) a) (drop (i + 1) b)
-  same-next e = rw (drop-more a i ha, drop-more b i hb, eq-eqb (getD a i 0) (getD b i 0) e)
-
-  pub same-stop : (getD a i 0 ≡ getD b i 0 → ⊥) → same (drop i a) (drop i b) ≡ false
-  same-stop n = rw (drop-more a i ha, drop-more b i hb, ne-eqb (getD a i 0) (getD b i 0) n)
-
-pub same-end : (a b : List ℕ) (i : ℕ) → length a ≤ i → length b ≤ i → same (drop i a) (drop i b) ≡ true
-same-end a b i ha hb = rw (drop-of-length-le a ha, drop-of-length-le b hb)
-
-pub same-lengths : (a b : List ℕ) → (length a ≡ length b → ⊥) → same a b ≡ false
-same-lengths [] [] n = absurd (n refl)
-same-lengths [] (y ∷ b) n = refl
-same-lengths (x ∷ a) [] n = refl
-same-lengths (x ∷ a) (y ∷ b) n = rw (same-lengths a b (λ e. n (omega (arith, e)))) (and-false (eqb x y))
-
--- ---- decode, from the frame read
-
--- what a struct cannot hold is not accepted
-pub accepted-held : (o : Option Frame) (b : List ℕ) → accepted o b ≡ cond (allowed-of (held o) && same (encoding-of (held o)) b) (held o) none
-accepted-held none b = refl
-accepted-held (some (opening s)) b = refl
-accepted-held (some (welcome s σ)) b = refl
-accepted-held (some (order s n c)) b = go (too-long c) refl
-  where
-    go : (x : Bool) → too-long c ≡ x →
-        let o = some (order s n c) in
-        accepted o b ≡ cond (allowed-of (held o) && same (encoding-of (held o)) b) (held o) none
-    go true e = rw (e, and-false)
-    go false e = rw (e, e)
-accepted-held (some (ack s k)) b = refl
-accepted-held (some (refuse s r)) b = refl
-
-module _ (b : List ℕ) (f : FrameStruct) (read : f ≡ frame-of (held (promised b))) where
-  meaning-read : meaning f ≡ held (promised b)
-  meaning-read = rw read (meaning-frame-of (held (promised b)))
-
-  decode-read : decode b ≡ cond (allowed-of (meaning f) && same (encoding-of (meaning f)) b) (meaning f) none
+module _ (end : End) (b : List ℕ) where
+  pub decode-fault : (f : Fault) → fault-told end b ≡ some f → decode end b ≡ a-fault f
   unfolding decode
-  decode-read = rw meaning-read (accepted-held (promised b) b)
+  decode-fault f e = rw e
 
-  pub decode-taken : allowed-of (meaning f) ≡ true → same (encoding-of (meaning f)) b ≡ true → (f ≡ frame-of (decode b)) × (meaning f ≡ decode b)
-  decode-taken e s =
-      let whole : meaning f ≡ decode b = sym (decode-read ∙ rw (e, s)) in
-      (read ∙ ap frame-of (sym meaning-read ∙ whole), whole)
+  module _ (bytes : Bytes b) (f : FrameStruct) (sound : fault-told end b ≡ none) (read : f ≡ frame-of (some (carried (frame-in b)))) where
+    told : decode end b ≡ a-frame (frame-in b)
+    unfolding decode
+    told = rw sound
 
-  pub decode-other : same (encoding-of (meaning f)) b ≡ false → decode b ≡ none
-  decode-other s = decode-read ∙ rw (s, and-false)
+    held : carried (frame-in b) ≡ frame-in b
+    held = carried-short (frame-in b) (valid-short (frame-in b) (decode-exact end b bytes (frame-in b) .0 told .0))
 
-  pub decode-refused : allowed-of (meaning f) ≡ false → decode b ≡ none
-  decode-refused e = decode-read ∙ rw e
+    pub decode-sound : (none ≡ fault-in (decode end b)) × ((f ≡ frame-of (frame-read (decode end b))) × (meaning f ≡ frame-read (decode end b)))
+    decode-sound =
+        let whole : f ≡ frame-of (some (frame-in b)) = rw held at read in
+        rw told (refl, (whole, rw whole (meaning-frame-of (some (frame-in b)))))

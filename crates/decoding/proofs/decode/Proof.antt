@@ -1,48 +1,51 @@
-use mathlib.Core.Path.{refl, sym, _∙_}
+use mathlib.Core.Path.{sym, ap, _∙_}
 use borrow.Author.Needs.{needs}
-use Rattle.decoding.proofs.Reading.{decode-taken, decode-other, decode-refused}
+use Rattle.judging.specs.View.{fault-of}
+use Rattle.decoding.proofs.Fields.{lent-bytes}
+use Rattle.decoding.proofs.Reading.{decode-fault, decode-sound}
 use Rattle.decoding.proofs.decode.Statement.{statement}
 use Rattle.decoding.proofs.decode.Tie as tie
 
-promised-requires : tie.Need-promised-requires
-promised-requires c κs = search needs
+fault-told-requires : tie.Need-fault-told-requires
+fault-told-requires c κs = search needs
 
-allowed-requires : tie.Need-allowed-requires
-allowed-requires c κs = search needs
+enum-told : tie.Need-enum-told
+enum-told c = search needs
 
-encodes-to-requires : tie.Need-encodes-to-requires
-encodes-to-requires c κs = search needs
+frame-in-requires : tie.Need-frame-in-requires
+frame-in-requires c κs = search needs
 
-returns : tie.Need-returns
-returns c =
-    let f = c .before .before .before .before .promised in
-    decode-taken _ _ (f .ensures) (sym (c .before .before .before .allowed .ensures) ∙ c .before .before .if1 .taken) (sym (c .before .encodes-to .ensures) ∙ c .if2 .taken)
+enum-known-found : tie.Need-enum-known-found
+enum-known-found c = search needs
 
 malformed-requires : tie.Need-malformed-requires
 malformed-requires c κs = search needs
 
+returns : tie.Need-returns
+returns c =
+    let told = c .before .before .before in
+    decode-sound
+    _
+    _
+    (lent-bytes (told .before .before .args .bytes .now) (told .before .shared-slice-known .given))
+    _
+    (sym (told .fault-told .ensures) ∙ ap fault-of (c .before .enum-told .given .1))
+    (c .frame-in .ensures)
+
 returns-2 : tie.Need-returns-2
 returns-2 c =
-    let f = c .before .before .before .before .before .promised in
-    rw (c .malformed .ensures, decode-other _ _ (f .ensures) (sym (c .before .before .encodes-to .ensures) ∙ c .before .if2 .left)) (refl, refl)
-
-malformed-requires-2 : tie.Need-malformed-requires-2
-malformed-requires-2 c κs = search needs
-
-returns-3 : tie.Need-returns-3
-returns-3 c =
-    let f = c .before .before .before .promised in
-    rw (c .malformed2 .ensures, decode-refused _ _ (f .ensures) (sym (c .before .before .allowed .ensures) ∙ c .before .if1 .left)) (refl, refl)
+    let known = c .before .before in
+    let told = decode-fault _ _ _ (sym (known .before .before .fault-told .ensures) ∙ ap fault-of (known .found .given .1)) in
+    search (needs, told, c .malformed .ensures)
 
 pub decode-spec : {M : Type 1} → statement M
 decode-spec =
     tie.close
     (tie.spec
-    promised-requires
-    allowed-requires
-    encodes-to-requires
-    returns
+    fault-told-requires
+    enum-told
+    frame-in-requires
+    enum-known-found
     malformed-requires
-    returns-2
-    malformed-requires-2
-    returns-3)
+    returns
+    returns-2)
