@@ -3,6 +3,7 @@ use Prim.Native.Nat.{ℕ}
 use native.Mathlib.Omega.{arith}
 use mathlib.Core.Path.{_≡_, refl, sym, ap, _∙_, subst}
 use mathlib.Core.List.{List, [], _∷_, _++_, map, flatMap, List·Memᴰ, List·Memᴰ·head, List·Memᴰ·tail, Memᴰ·cast, Memᴰ·append-left, Memᴰ·of-map}
+use Rattle.base.specs.Refusal.{Fault}
 use Rattle.wrapping.specs.Wrapping.{wrapped}
 use Rattle.wrapping.specs.Receiver.{fresh}
 use Rattle.wrapping.specs.Reading.{Handed, frame, refused, Reading, earlier, read, given}
@@ -69,8 +70,8 @@ module _ (i : Incoming) (b : Begun i) where
   handed-each : (x : Handed) → List·Memᴰ x (i .handed) → (f : List ℕ) × List·Memᴰ f (b .row) × (frame f ≡ x)
   handed-each x m = Memᴰ·of-map frame (b .row) (subst (List·Memᴰ x) handed-row (Memᴰ·append-left (read (i .receiver) (b .rest) .handed) m))
 
-  none-refused : (n : ℕ) → List·Memᴰ (refused n) (i .handed) → ⊥
-  none-refused n m = let (f, _, e) = handed-each (refused n) m in let z : _≡_ {A = ℕ} 0 1 = cc in omega arith
+  none-refused : (why : Fault) → List·Memᴰ (refused why) (i .handed) → ⊥
+  none-refused why m = let (f, _, e) = handed-each (refused why) m in let z : _≡_ {A = ℕ} 0 1 = cc in omega arith
 
   pub frames-each : (f : List ℕ) → List·Memᴰ (frame f) (i .handed) → List·Memᴰ f (b .row)
   frames-each f m = let (g, here, e) = handed-each (frame f) m in let same : f ≡ g = cc in Memᴰ·cast same here

@@ -4,6 +4,7 @@ use Prim.Native.Nat.{ℕ}
 use mathlib.Core.Path.{_≡_}
 use mathlib.Core.List.{List, flatMap, List·Memᴰ}
 use lib.ListN.{take}
+use Rattle.base.specs.Refusal.{Fault}
 use Rattle.wrapping.specs.Wrapping.{wrapped}
 use Rattle.wrapping.specs.Reading.{refused}
 use Rattle.wrapping.specs.Theorems.{Wrappable}
@@ -14,7 +15,7 @@ use Rattle.delivery.specs.Calls.{ByteCall, Incoming, first-arrivals, arr
 -- what arrived at an end since its start or restart
 pub record Intact (i : Incoming) : Type 0 where
   -- nothing was refused or dropped on the way
-  pub none-refused : (n : ℕ) → List·Memᴰ (refused n) (i .handed) → ⊥
+  pub none-refused : (why : Fault) → List·Memᴰ (refused why) (i .handed) → ⊥
   pub none-dropped : i .receiver .dropped ≡ 0
   -- whole frames were handed on, each once and in order
   pub through : (row : List (List ℕ)) → ((f : List ℕ) → List·Memᴰ f row → Wrappable f) → i .given ≡ flatMap wrapped row → frames (i .handed) ≡ row

@@ -1,7 +1,7 @@
 // The receiver's calls.
 use crate::wrapper::OUTER_TAG;
 use crate::wrapper::fits;
-use base::Refusal;
+use base::FrameFault;
 use wrapping::CONTENTS_MOST;
 use wrapping::Event;
 use wrapping::Place;
@@ -59,7 +59,7 @@ fn is_nothing(event: Event) -> bool
     match event {
         Event::Nothing => true,
         Event::Frame(len) => false,
-        Event::Refused(refusal) => false,
+        Event::Refused(fault, offset) => false,
     }
 }
 
@@ -144,7 +144,7 @@ fn at_length(receiver: Receiver, length: u16) -> Received
     moved(
         receiver,
         skipping(length),
-        Event::Refused(Refusal::MalformedFrame),
+        Event::Refused(FrameFault::WrongLength, 0),
     )
 }
 

@@ -10,7 +10,8 @@ use lib.Dec.{eqb, leb}
 use lib.ListN.{length, drop, set, drop-of-length-le}
 use lib.Seq.{sets, take-append-seam}
 use borrow.Author.Tests.{eq-eqb, ne-eqb, le-leb, lt-leb}
-use Rattle.base.specs.declared.refusal.Refusal.the-variants.{MalformedFrame}
+use Rattle.base.specs.declared.refusal.FrameFault.the-variants.{WrongLength}
+use Rattle.base.specs.Refusal.{fault}
 use Rattle.base.proofs.Lists.{sets-front}
 use Rattle.base.proofs.Tests.{cond-cases}
 use Rattle.wrapping.specs.declared.Event.the-variants.{Nothing, Frame, Refused}
@@ -69,11 +70,11 @@ module _ (buffer : List ℕ) (dropped n : ℕ) (small : n < 65536) (rest : List 
   length-judged = rw whole
 
   pub length-received : BadLength n →
-      receive (standing Tag buffer dropped) (field-head n ++ rest) ≡ record { receiver = standing (skipping n) buffer dropped; took = 3; event = Refused MalformedFrame }
+      receive (standing Tag buffer dropped) (field-head n ++ rest) ≡ record { receiver = standing (skipping n) buffer dropped; took = 3; event = Refused WrongLength 0 }
   unfolding at-length
   length-received bad = head-received ∙ ap (after-more 2) (receive-stop _ (n / 256) rest (length-judged ∙ refused-at) refl)
     where
-      refused-at : at-length (standing Tag buffer dropped) n ≡ moved (standing Tag buffer dropped) (skipping n) (Refused MalformedFrame)
+      refused-at : at-length (standing Tag buffer dropped) n ≡ moved (standing Tag buffer dropped) (skipping n) (Refused WrongLength 0)
       refused-at = rw (unfit n bad)
 
   fitting-received : fits n ≡ true →
@@ -105,7 +106,7 @@ module _ (buffer : List ℕ) (dropped : ℕ) where
       rw (ne-eqb (suc (length bytes)) 0 (omega arith), left) (skip-read bytes)
 
   pub bad-read : (contents : List ℕ) → BadLength (length contents) → length contents < 65536 →
-      read (standing Tag buffer dropped) (field-head (length contents) ++ contents) ≡ record { receiver = standing Tag buffer dropped; handed = refused 4 ∷ [] }
+      read (standing Tag buffer dropped) (field-head (length contents) ++ contents) ≡ record { receiver = standing Tag buffer dropped; handed = refused (fault 16 0) ∷ [] }
   bad-read contents bad small =
       sym (receive-read (standing Tag buffer dropped) (field-head (length contents) ++ contents)) ∙
       rw (length-received buffer dropped (length contents) small contents bad, skip-read contents)

@@ -46,7 +46,7 @@ dropped-grows r (byte ∷ bytes) = omega (arith, counts-on (r .place) r byte, dr
 nothing-came : (e : Event) (r : Receiver) → is-nothing e ≡ true → came-with e r ≡ []
 nothing-came Nothing r e = refl
 nothing-came (Frame n) r e = absurd (false≢true e)
-nothing-came (Refused why) r e = absurd (false≢true e)
+nothing-came (Refused why offset) r e = absurd (false≢true e)
 
 -- a call, and what is read behind it
 pub receive-read : (r : Receiver) (bytes : List ℕ) → earlier (came (receive r bytes)) (read (receive r bytes .receiver) (drop (receive r bytes .took) bytes)) ≡ read r bytes
@@ -69,7 +69,7 @@ takes-some r byte bytes =
 something-came : (e : Event) (r : Receiver) → is-nothing e ≡ false → came-with e r ≡ [] → ⊥
 something-came Nothing r e = λ _. false≢true (sym e)
 something-came (Frame n) r e = λ none. let z : _≡_ {A = ℕ} 0 1 = cc in omega arith
-something-came (Refused why) r e = λ none. let z : _≡_ {A = ℕ} 0 1 = cc in omega arith
+something-came (Refused why offset) r e = λ none. let z : _≡_ {A = ℕ} 0 1 = cc in omega arith
 
 before-first : (r : Receiver) (bytes : List ℕ) (k : ℕ) → k < 1 → read r (take k bytes) .handed ≡ []
 before-first r bytes zero less = refl

@@ -9,6 +9,7 @@ use lib.ListN.{length}
 use lib.Seq.{sets, length-sets, take-append-seam}
 use lib.Dec.{leb, ltb}
 use borrow.Author.Tests.{lt-ltb, le-ltb, ltb-true, ltb-false, leb-true, leb-false}
+use Rattle.base.specs.Refusal.{fault}
 use Rattle.base.specs.Result.{Result, accepted}
 use Rattle.base.proofs.Lists.{sets-front}
 use Rattle.base.proofs.Tests.{cond-cases}
@@ -73,7 +74,7 @@ pub bad-length-skips : BadLengthSkips
 bad-length-skips r at contents bad small =
     let bytes = field-head (length contents) ++ contents in
     given-reads r bytes ∙ ap (λ (s : Receiver). read s bytes) (tag-place r at) ∙ bad-read (r .buffer) (r .dropped) contents bad small ∙
-    ap (λ (s : Receiver). record { receiver = s; handed = refused 4 ∷ [] }) (sym (tag-place r at))
+    ap (λ (s : Receiver). record { receiver = s; handed = refused (fault 16 0) ∷ [] }) (sym (tag-place r at))
 
 -- ---- a row of items
 
@@ -92,7 +93,7 @@ module _ (buffer : List ℕ) (dropped : ℕ) (long : length buffer ≡ contents-
   same-count : min (dropped + 0) dropped-most ≡ dropped
   same-count = omega arith
 
-  refused-field : (contents : List ℕ) → length contents < 65536 → BadLength (length contents) → ItemsRead buffer dropped (item-bytes (field contents)) (refused 4 ∷ []) 0
+  refused-field : (contents : List ℕ) → length contents < 65536 → BadLength (length contents) → ItemsRead buffer dropped (item-bytes (field contents)) (refused (fault 16 0) ∷ []) 0
   refused-field contents small bad = record { left = buffer; long = long; reads = rw same-count (bad-read buffer dropped contents bad small) }
 
   field-reads : (contents : List ℕ) → length contents < 65536 → ItemsRead buffer dropped (item-bytes (field contents)) (item-handed (field contents)) 0

@@ -2,23 +2,23 @@
 use Prim.Native.Nat.{ℕ, zero, suc}
 use mathlib.Core.List.{List, [], _∷_, _++_}
 use lib.ListN.{length, take, drop}
-use Rattle.base.specs.Refusal.{number}
+use Rattle.base.specs.Refusal.{fault-number, Fault, fault}
 use Rattle.wrapping.specs.declared.Event.{Event}
 use Rattle.wrapping.specs.declared.Event.the-variants.{Nothing, Frame, Refused}
 use Rattle.wrapping.specs.declared.Received.{Received}
 use Rattle.wrapping.specs.declared.Receiver.{Receiver}
 use Rattle.wrapping.specs.Receiver.{step, receive}
 
--- a frame, or a refusal's number
+-- a frame, or the fault of an outer field
 pub data Handed : Type 0 where
   frame : List ℕ → Handed
-  refused : ℕ → Handed
+  refused : Fault → Handed
 
 -- what came with a call: a frame is the front of the receiver's buffer
 abbrev pub came-with : Event → Receiver → List Handed
 came-with Nothing r = []
 came-with (Frame n) r = frame (take n (r .buffer)) ∷ []
-came-with (Refused why) r = refused (number why) ∷ []
+came-with (Refused why offset) r = refused (fault (fault-number why) offset) ∷ []
 
 abbrev pub came : Received → List Handed
 came t = came-with (t .event) (t .receiver)

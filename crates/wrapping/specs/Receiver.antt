@@ -4,7 +4,7 @@ use mathlib.Core.Bool.{Bool, true, false, cond}
 use mathlib.Core.List.{List, [], _∷_}
 use lib.ListN.{set, replicate}
 use lib.Dec.{eqb, leb, ltb}
-use Rattle.base.specs.declared.refusal.Refusal.the-variants.{MalformedFrame}
+use Rattle.base.specs.declared.refusal.FrameFault.the-variants.{WrongLength}
 use Rattle.wrapping.specs.declared.Event.{Event}
 use Rattle.wrapping.specs.declared.Event.the-variants.{Nothing, Frame, Refused}
 use Rattle.wrapping.specs.declared.Place.{Place}
@@ -43,9 +43,9 @@ at-tag r byte = cond (eqb byte outer-tag) (moved r LengthLow Nothing) (moved (dr
 unfoldable pub skipping : ℕ → Place
 skipping n = cond (eqb n 0) Tag (Skipped n)
 
--- a length is judged at once
+-- a length is judged at once; one that is wrong is told at the outer tag
 unfoldable pub at-length : Receiver → ℕ → Received
-at-length r n = cond (fits n) (moved r (Contents n 0) Nothing) (moved r (skipping n) (Refused MalformedFrame))
+at-length r n = cond (fits n) (moved r (Contents n 0) Nothing) (moved r (skipping n) (Refused WrongLength 0))
 
 -- byte `filled` of a frame of n bytes
 unfoldable pub at-contents : Receiver → ℕ → ℕ → ℕ → Received
@@ -68,7 +68,7 @@ step r byte = step-at (r .place) r byte
 abbrev pub is-nothing : Event → Bool
 is-nothing Nothing = true
 is-nothing (Frame n) = false
-is-nothing (Refused r) = false
+is-nothing (Refused why offset) = false
 
 abbrev pub after-more : ℕ → Received → Received
 after-more n t = record { receiver = t .receiver; took = n + t .took; event = t .event }

@@ -1,4 +1,4 @@
--- What holds of frames over a stream: document 02, Ask 1.
+-- What holds of frames over a stream: document 02, Ask 1, whose refusal 4 Ask 2 makes 16 at offset 0.
 use Prim.Native.Nat.{ℕ, _+_, _/_, _%_, _<_, _≤_, min}
 use mathlib.Core.Path.{_≡_}
 use mathlib.Core.Logic.{_⊎_}
@@ -7,6 +7,7 @@ use mathlib.Core.List.{List, [], _∷_, _++_, map, flatMap, flatten, List·Mem�
 use lib.ListN.{length, take}
 use lib.Dec.{leb}
 use Rattle.base.specs.Bytes.{Bytes}
+use Rattle.base.specs.Refusal.{fault}
 use Rattle.base.specs.Result as result
 use Rattle.base.specs.Result.{accepted}
 use Rattle.wrapping.specs.declared.Place.the-variants.{Tag}
@@ -72,10 +73,10 @@ abbrev pub Proper : Item → Type 0
 Proper (stray byte) = byte ≡ tag → ⊥
 Proper (field contents) = InTwoBytes (length contents)
 
--- contents of 1 to 64 bytes are a frame, all others get refusal 4
+-- contents of 1 to 64 bytes are a frame, all others get 16 at offset 0
 abbrev pub item-handed : Item → List Handed
 item-handed (stray byte) = []
-item-handed (field contents) = cond (leb 1 (length contents) && leb (length contents) longest) (frame contents ∷ []) (refused 4 ∷ [])
+item-handed (field contents) = cond (leb 1 (length contents) && leb (length contents) longest) (frame contents ∷ []) (refused (fault 16 0) ∷ [])
 
 abbrev pub item-dropped : Item → ℕ
 item-dropped (stray byte) = 1
@@ -131,7 +132,7 @@ BadLength n = (n ≡ 0) ⊎ (longest < n)
 abbrev pub BadLengthSkips : Type 0
 BadLengthSkips =
     (r : Receiver) → AtTag r → (contents : List ℕ) → BadLength (length contents) → InTwoBytes (length contents) →
-    given r (field-head (length contents) ++ contents) ≡ record { receiver = r; handed = refused 4 ∷ [] }
+    given r (field-head (length contents) ++ contents) ≡ record { receiver = r; handed = refused (fault 16 0) ∷ [] }
 
 -- the wrapping call: 2 for a bad length, then 1 for a short output; else tag, length and frame
 pub record WrapAnswer (f : List ℕ) (room : ℕ) : Type 0 where
@@ -154,4 +155,4 @@ WrapTaken =
 abbrev pub LengthRefused : Type 0
 LengthRefused =
     (r : Receiver) → AtTag r → (n : ℕ) (rest : List ℕ) → BadLength n → InTwoBytes n →
-    let t = receive r (field-head n ++ rest) in (t .took ≡ length (field-head n)) × (came t ≡ refused 4 ∷ [])
+    let t = receive r (field-head n ++ rest) in (t .took ≡ length (field-head n)) × (came t ≡ refused (fault 16 0) ∷ [])

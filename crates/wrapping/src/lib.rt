@@ -1,6 +1,6 @@
 // Frames over a link that hands over bytes in pieces of any size, document 02's first request: what their receiver holds. Its rules, how a
 // frame is wrapped, and the theorems about both are in specs/; the calls that keep the rules are in stream.
-use base::Refusal;
+use base::FrameFault;
 ghost use mathlib.Core.Path.{_≡_};
 ghost use Rattle.wrapping.specs.Receiver as spec;
 
@@ -30,7 +30,8 @@ pub struct Receiver {
 pub enum Event {
     Nothing,
     Frame(usize),
-    Refused(Refusal),
+    // The outer field is at fault: what is wrong, and at which offset from its tag.
+    Refused(FrameFault, usize),
 }
 
 // The receiver afterwards, and how many bytes it took.
