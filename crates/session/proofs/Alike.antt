@@ -5,6 +5,7 @@ use mathlib.Core.Bool.{Bool, true, false, cond, _&&_}
 use mathlib.Core.Option.{Option, Option·map}
 use lib.Dec.{eqb}
 use borrow.Author.Tests.{eqb-true, eq-eqb}
+use Rattle.base.specs.Refusal.{Told}
 use Rattle.frame.specs.Frame.{Frame}
 use Rattle.link.specs.Encoding.{encode}
 use Rattle.session.specs.Calls.{answer-of}
@@ -15,7 +16,7 @@ pub record Alike {A B : Type 0} (R : A → B → Type 0) (t : Turn A) (u : Turn 
   pub same-refusal : t .refusal ≡ u .refusal
   pub same-frame : t .frame ≡ u .frame
 
-pub answered-alike : {A B : Type 0} {R : A → B → Type 0} {a : A} {b : B} {refusal : Option ℕ} {frame : Option Frame} → R a b →
+pub answered-alike : {A B : Type 0} {R : A → B → Type 0} {a : A} {b : B} {refusal : Option Told} {frame : Option Frame} → R a b →
     Alike R (record { state = a; refusal = refusal; frame = frame }) (record { state = b; refusal = refusal; frame = frame })
 answered-alike related = record { states = related; same-refusal = refl; same-frame = refl }
 

@@ -13,13 +13,15 @@ use Rattle.settings.specs.declared.settings.Settings.{Settings}
 use Rattle.bus.specs.Run.{Ready}
 use Rattle.bus.proofs.Settles.{fresh-ready}
 use Rattle.frame.specs.Frame.{Change, Frame, opening, welcome, order, ack, refuse, ValidChange}
-use Rattle.link.specs.Encoding.{decode, Valid, valid-order}
+use Rattle.link.specs.Encoding.{Valid, valid-order}
+use Rattle.judging.specs.declared.End.the-variants.{Box}
+use Rattle.judging.specs.Decoding.{Decoded, a-fault, a-frame, decode}
 use Rattle.link.specs.View.{frame-limit}
 use Rattle.order.proofs.Keeps.{valid-short}
 use Rattle.order.proofs.Laws.{obeys}
 use Rattle.session.specs.declared.Cab.{Cab}
 use Rattle.session.proofs.Alike.{Alike, answered-alike, cond-both, same-test, eqb-sym}
-use Rattle.session.specs.Box.{cab-of, started, welcomed, acknowledged, opened-again, opened, sent, obeyed, ordered-here, ordered, received, frame-in}
+use Rattle.session.specs.Box.{cab-of, started, welcomed, acknowledged, opened-again, opened, sent, obeyed, ordered-here, ordered, received, judged, frame-in}
 use Rattle.session.specs.History.{BoxHistory, restarted, with-taken, updated, rule-open, rule-order, rule-box-frame}
 use Rattle.session.proofs.Tools.{updated-same, length-one-more}
 use Rattle.session.specs.Turn.{Turn, wrote, silent, refused, refused-by}
@@ -117,20 +119,20 @@ order-alike (active {κ} {highest} {initial} {taken} ready) s n change valid =
 
 -- ---- any frame
 
-read-alike : {c : Cab} {b : BoxHistory} → CabAlike c b → (m : Option Frame) → ((f : Frame) → m ≡ some f → Valid f) →
-    BoxAlike (received c m) (rule-box-frame b m)
+read-alike : {c : Cab} {b : BoxHistory} → CabAlike c b → (m : Decoded) → ((f : Frame) → m ≡ a-frame f → Valid f) →
+    BoxAlike (judged c m) (rule-box-frame b m)
 unfolding received rule-box-frame
-read-alike a none valid = answered-alike a
-read-alike a (some (opening s)) valid = open-alike a s
-read-alike a (some (welcome s σ)) valid = answered-alike a
-read-alike {c} {b} a (some (order s n change)) valid = by-valid (valid (order s n change) refl)
+read-alike a (a-fault f) valid = answered-alike a
+read-alike a (a-frame (opening s)) valid = open-alike a s
+read-alike a (a-frame (welcome s σ)) valid = answered-alike a
+read-alike {c} {b} a (a-frame (order s n change)) valid = by-valid (valid (order s n change) refl)
   where
     by-valid : Valid (order s n change) → BoxAlike (ordered c s n change) (rule-order (b .session) b s n change)
     by-valid (valid-order _ _ _ v) = order-alike a s n change v
-read-alike a (some (ack s k)) valid = answered-alike a
-read-alike a (some (refuse s r)) valid = answered-alike a
+read-alike a (a-frame (ack s k)) valid = answered-alike a
+read-alike a (a-frame (refuse s r)) valid = answered-alike a
 
-pub box-alike : {c : Cab} {b : BoxHistory} → CabAlike c b → (bytes : List ℕ) (room : ℕ) → ((f : Frame) → decode bytes ≡ some f → Valid f) →
-    BoxAlike (frame-in c bytes room) (cond (ltb room frame-limit) (refused b 1) (rule-box-frame b (decode bytes)))
+pub box-alike : {c : Cab} {b : BoxHistory} → CabAlike c b → (bytes : List ℕ) (room : ℕ) → ((f : Frame) → decode Box bytes ≡ a-frame f → Valid f) →
+    BoxAlike (frame-in c bytes room) (cond (ltb room frame-limit) (refused b 1) (rule-box-frame b (decode Box bytes)))
 unfolding frame-in
-box-alike a bytes room valid = cond-both BoxAlike (ltb room frame-limit) (λ _. answered-alike a) (λ _. read-alike a (decode bytes) valid)
+box-alike a bytes room valid = cond-both BoxAlike (ltb room frame-limit) (λ _. answered-alike a) (λ _. read-alike a (decode Box bytes) valid)

@@ -11,16 +11,19 @@ use lib.Dec.{eqb, leb, ltb}
 use borrow.Author.Tests.{eqb-true, ltb-true}
 use Rattle.base.proofs.Tests.{cond-cases}
 use Rattle.settings.proofs.RangeLaws.{fresh-held}
+use Rattle.base.specs.Refusal.{Told, plain}
 use Rattle.frame.specs.Frame.{Change, ValidChange, Frame, welcome, ack, refuse}
-use Rattle.link.specs.Encoding.{encode, decode, Valid, valid-opening, valid-welcome, valid-order, valid-ack, valid-refuse}
+use Rattle.link.specs.Encoding.{encode, Valid, valid-opening, valid-welcome, valid-order, valid-ack, valid-refuse}
+use Rattle.judging.specs.declared.End.the-variants.{Box}
+use Rattle.judging.specs.Decoding.{a-frame, decode}
 use Rattle.link.specs.View.{frame-limit}
 use Rattle.order.proofs.Keeps.{apply-held}
 use Rattle.session.specs.Turn.{Turn, wrote, silent, refused, refused-by}
 use Rattle.session.specs.Calls.{answer-of, Log, with-frame, logged-at-box, FitsSession}
 use Rattle.session.specs.History.{is-live, BoxHistory, History, settings-after, orders, updated, restarted, with-session, with-taken, is-open, rule-open, rule-order, rule-box-frame, at-box}
 use Rattle.session.proofs.Tools.{updated-same, updated-other, updated-each, updated-by-own, getElem?-below, length-one-more}
-use Rattle.session.proofs.Tools.{Prefix, prefix-length, prefix-next, EachDecodes, decodes-weaker, decodes-one-more}
-use Rattle.session.proofs.Invariant.{settings-next, Request, request-opening, request-order, Reply, reply-welcome, reply-ack, reply-refuse, SessionSafe, BoxSafe, LiveSafe, Safe, taken-first}
+use Rattle.session.proofs.Tools.{Prefix, prefix-length, prefix-next, EachDecodes, decodes-weaker, decodes-one-more, decoded-at}
+use Rattle.session.proofs.Invariant.{settings-next, Request, request-opening, request-order, Reply, reply-welcome, reply-ack, reply-refuse, SessionSafe, BoxSafe, LiveSafe, Safe, taken-first, request-reader}
 
 abbrev pub BoxTurnSafe : History → Log → Turn BoxHistory → Type 0
 BoxTurnSafe h l t = Safe (at-box h t .state) (logged-at-box l (answer-of t) (t .state .session))
@@ -39,7 +42,7 @@ open-session (some t) s e = ap {B = Option ℕ} some (eqb-true t s e)
 -- Below, where a proof of Safe is a search, the list has the parts that change: the others are those of `safe`.
 
 module _ (h : History) (l : Log) (safe : Safe h l) where
-  module _ (b : BoxHistory) (follows : BoxFollows h l b) (refusal : Option ℕ) where
+  module _ (b : BoxHistory) (follows : BoxFollows h l b) (refusal : Option Told) where
     box-turn : (frame : Option Frame) → EachDecodes (Reply b) (with-frame (Option·map encode frame) (l .from-box)) →
         BoxTurnSafe h l (record { state = b; refusal = refusal; frame = frame })
     box-turn frame replies =
@@ -65,12 +68,12 @@ module _ (h : History) (l : Log) (safe : Safe h l) where
   unchanged : BoxFollows h l (h .box)
   unchanged = search (arith, taken-first h l safe)
 
-  replied : (refusal : Option ℕ) (f : Frame) → Valid f → Reply (h .box) f →
+  replied : (refusal : Option Told) (f : Frame) → Valid f → Reply (h .box) f →
       BoxTurnSafe h l (record { state = h .box; refusal = refusal; frame = some f })
   replied = box-wrote (h .box) unchanged
 
-  replied-refuse : (s r : ℕ) → FitsSession s → 4 < r → r ≤ 7 → BoxTurnSafe h l (refused-by (h .box) s r)
-  replied-refuse s r fits low high = replied (some r) (refuse s r) (valid-refuse fits (omega arith) high (λ e. absurd (omega arith))) reply-refuse
+  replied-refuse : (s r : ℕ) → FitsSession s → 5 ≤ r → r ≤ 7 → BoxTurnSafe h l (refused-by (h .box) s r)
+  replied-refuse s r fits low high = replied (some (plain r)) (refuse s r) (valid-refuse fits low high) reply-refuse
 
   replied-ack : (s : ℕ) → FitsSession s → BoxTurnSafe h l (wrote (h .box) (ack s (length (h .box .taken s))))
   replied-ack s fits =
@@ -211,14 +214,14 @@ module _ (h : History) (l : Log) (safe : Safe h l) where
 
   -- ---- a frame in, which the office wrote
 
-  read-safe : (f : Frame) → Valid f → Request (h .issued) f → BoxTurnSafe h l (rule-box-frame (h .box) (some f))
+  read-safe : (f : Frame) → Valid f → Request (h .issued) f → BoxTurnSafe h l (rule-box-frame (h .box) (a-frame f))
   unfolding rule-box-frame
   read-safe _ (valid-opening fits) (request-opening {s = s}) = open-safe s fits
   read-safe _ (valid-order fits _ _ valid) (request-order {s = s} {n = n} {c = c} issued) = order-safe (h .box .session) refl s n c fits valid issued
 
   pub box-frame-safe : (bytes : List ℕ) (room : ℕ) → List·Memᴰ bytes (l .from-office) →
-      BoxTurnSafe h l (cond (ltb room frame-limit) (refused (h .box) 1) (rule-box-frame (h .box) (decode bytes)))
+      BoxTurnSafe h l (cond (ltb room frame-limit) (refused (h .box) 1) (rule-box-frame (h .box) (decode Box bytes)))
   box-frame-safe bytes room m =
       let written = safe .requests bytes m in
-      cond-cases (BoxTurnSafe h l) (ltb room frame-limit) _ _ (λ _. box-silent (h .box) unchanged (some 1))
-      (λ _. rw (written .decoded) (read-safe (written .frame) (written .valid) (written .holds)))
+      cond-cases (BoxTurnSafe h l) (ltb room frame-limit) _ _ (λ _. box-silent (h .box) unchanged (some (plain 1)))
+      (λ _. rw (decoded-at Box request-reader written) (read-safe (written .frame) (written .valid) (written .holds)))

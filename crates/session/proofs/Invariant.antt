@@ -10,6 +10,8 @@ use Rattle.settings.specs.declared.settings.Settings.{Settings}
 use Rattle.settings.specs.Range.{Held}
 use Rattle.settings.proofs.RangeLaws.{fresh-held}
 use Rattle.frame.specs.Frame.{Change, ValidChange, Frame, opening, welcome, order, ack, refuse}
+use Rattle.judging.specs.declared.End.the-variants.{Box, Office}
+use Rattle.judging.specs.Theorems.{reader}
 use Rattle.order.specs.Apply.{apply}
 use Rattle.session.specs.Calls.{Log, first-log, FitsSession}
 use Rattle.session.specs.History.{is-awaiting, is-live, BoxHistory, OfficeHistory, History, first-history, settings-after, orders}
@@ -30,6 +32,15 @@ pub data Reply (b : BoxHistory) : Frame → Type 0 where
   reply-welcome : {s : ℕ} {σ : Settings} → s ≤ b .highest → σ ≡ b .opened s → Reply b (welcome s σ)
   reply-ack : {s k : ℕ} → k ≤ length (b .taken s) → Reply b (ack s k)
   reply-refuse : {s r : ℕ} → Reply b (refuse s r)
+
+pub request-reader : {issued : ℕ → List Change} (f : Frame) → Request issued f → reader f ≡ Box
+request-reader _ request-opening = refl
+request-reader _ (request-order _) = refl
+
+pub reply-reader : {b : BoxHistory} (f : Frame) → Reply b f → reader f ≡ Office
+reply-reader _ (reply-welcome _ _) = refl
+reply-reader _ (reply-ack _) = refl
+reply-reader _ reply-refuse = refl
 
 -- the changes of one session
 pub record SessionSafe (s : ℕ) (issued taken : List Change) (named : List ℕ) : Type 0 where

@@ -12,8 +12,9 @@ use borrow.Author.Tests.{eqb-true, eqb-false, leb-true, leb-false, ltb-true}
 use Rattle.base.proofs.Tests.{cond-cases}
 use Rattle.settings.specs.declared.settings.Settings.{Settings}
 use Rattle.settings.specs.Settings.{fresh}
-use Rattle.frame.specs.Frame.{Change, too-long, Frame, opening, welcome, order, ack, refuse}
-use Rattle.link.specs.Encoding.{decode}
+use Rattle.frame.specs.Frame.{Change, too-long, opening, welcome, order, ack, refuse}
+use Rattle.judging.specs.declared.End.the-variants.{Office as AtOffice}
+use Rattle.judging.specs.Decoding.{Decoded, a-fault, a-frame, decode}
 use Rattle.frame.proofs.Laws.{asked-change-of}
 use Rattle.frame.specs.View.{asked}
 use Rattle.link.specs.View.{frame-limit}
@@ -27,7 +28,7 @@ use Rattle.session.specs.History.{Stage, unopened, awaiting, live, ended
 use Rattle.session.specs.History.{updated, orders, with-office, with-opening, with-welcome, with-issued}
 use Rattle.session.specs.History.{rule-opening, rule-issue, sent-again, rule-resend, rule-reopen, rule-welcome, rule-ack, rule-refuse, rule-office-frame, progress-at, progress}
 use Rattle.session.specs.Office as office
-use Rattle.session.specs.Office.{order-of, no-order, empty-window, office-of, never, with-order, issue-unless, kept-change, received}
+use Rattle.session.specs.Office.{order-of, no-order, empty-window, office-of, never, with-order, issue-unless, kept-change, received, judged}
 use Rattle.session.proofs.Tools.{updated-same, length-one-more, getElem?-below, getElem?-append, getElem?-last}
 use Rattle.session.specs.Turn.{window-limit, order-limit, Turn, wrote, refused}
 
@@ -226,17 +227,17 @@ refuse-alike (backed {h} b) s r =
     (λ _. backed b))
     (λ _. backed b))
 
-read-alike : {box : BoxHistory} {x : Office} {h : History} → OfficeAlike box x h → (m : Option Frame) → TurnAlike box (received x m) (rule-office-frame h m)
+read-alike : {box : BoxHistory} {x : Office} {h : History} → OfficeAlike box x h → (m : Decoded) → TurnAlike box (judged x m) (rule-office-frame h m)
 unfolding received rule-office-frame
-read-alike a none = answered-alike a
-read-alike a (some (opening s)) = answered-alike a
-read-alike a (some (welcome s σ)) = answered-alike (welcome-alike a s σ)
-read-alike a (some (order s n c)) = answered-alike a
-read-alike a (some (ack s k)) = answered-alike (ack-alike a s k)
-read-alike a (some (refuse s r)) = answered-alike (refuse-alike a s r)
+read-alike a (a-fault f) = answered-alike a
+read-alike a (a-frame (opening s)) = answered-alike a
+read-alike a (a-frame (welcome s σ)) = answered-alike (welcome-alike a s σ)
+read-alike a (a-frame (order s n c)) = answered-alike a
+read-alike a (a-frame (ack s k)) = answered-alike (ack-alike a s k)
+read-alike a (a-frame (refuse s r)) = answered-alike (refuse-alike a s r)
 
-pub frame-alike : {box : BoxHistory} {x : Office} {h : History} → OfficeAlike box x h → (bytes : List ℕ) → TurnAlike box (office.frame-in x bytes) (rule-office-frame h (decode bytes))
-frame-alike a bytes = read-alike a (decode bytes)
+pub frame-alike : {box : BoxHistory} {x : Office} {h : History} → OfficeAlike box x h → (bytes : List ℕ) → TurnAlike box (office.frame-in x bytes) (rule-office-frame h (decode AtOffice bytes))
+frame-alike a bytes = read-alike a (decode AtOffice bytes)
 
 -- ---- the progress
 

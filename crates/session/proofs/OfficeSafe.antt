@@ -11,7 +11,9 @@ use borrow.Author.Tests.{eqb-true, eqb-false, ltb-true, ltb-false}
 use Rattle.base.proofs.Tests.{cond-cases, both-true}
 use Rattle.settings.specs.declared.settings.Settings.{Settings}
 use Rattle.frame.specs.Frame.{too-long, Change, command, raise, lower, ValidChange, valid-command, valid-raise, valid-lower, Frame, opening, welcome, order, ack, refuse}
-use Rattle.link.specs.Encoding.{encode, decode, Valid, valid-opening, valid-order}
+use Rattle.link.specs.Encoding.{encode, Valid, valid-opening, valid-order}
+use Rattle.judging.specs.declared.End.the-variants.{Office}
+use Rattle.judging.specs.Decoding.{a-frame, decode}
 use Rattle.link.specs.View.{frame-limit}
 use Rattle.order.specs.Apply.{apply}
 use Rattle.session.specs.Turn.{window-limit, order-limit, Turn, wrote}
@@ -19,8 +21,8 @@ use Rattle.session.specs.Calls.{answer-of, Log, named-unless, logged-at-
 use Rattle.session.specs.History.{live, is-awaiting, is-live, History, settings-after, updated, orders, with-office, with-opening, with-welcome, with-issued, unanswered, sent-again}
 use Rattle.session.specs.History.{rule-opening, rule-issue, rule-resend, rule-reopen, rule-welcome, rule-ack, rule-refuse, rule-office-frame}
 use Rattle.session.proofs.Tools.{impossible, updated-same, updated-each, updated-by-own, getElem?-below, getElem?-append, getElem?-last, getElem?-each, length-one-more}
-use Rattle.session.proofs.Tools.{prefix-append, EachDecodes, decodes-weaker, decodes-one-more}
-use Rattle.session.proofs.Invariant.{settings-next, Request, request-opening, request-order, Reply, SessionSafe, LiveSafe, Safe, none-confirmed}
+use Rattle.session.proofs.Tools.{prefix-append, EachDecodes, decodes-weaker, decodes-one-more, decoded-at}
+use Rattle.session.proofs.Invariant.{settings-next, Request, request-opening, request-order, Reply, SessionSafe, LiveSafe, Safe, none-confirmed, reply-reader}
 
 abbrev OfficeTurnSafe : Log → Turn History → Type 0
 OfficeTurnSafe l t = Safe (t .state) (logged-at-office l (answer-of t) (l .named))
@@ -187,11 +189,11 @@ module _ (h : History) (l : Log) (safe : Safe h l) where
       let g = h .office .stage in
       cond-cases (λ g. Safe g l) ((is-awaiting g || is-live g) && eqb s (h .office .session) && (eqb r 5 || eqb r 6)) _ _ (λ _. search impossible) (λ _. safe)
 
-  read-safe : (f : Frame) → Reply (h .box) f → OfficeTurnSafe l (rule-office-frame h (some f))
+  read-safe : (f : Frame) → Reply (h .box) f → OfficeTurnSafe l (rule-office-frame h (a-frame f))
   unfolding rule-office-frame
   read-safe (welcome s σ) reply = welcome-safe s σ reply
   read-safe (ack s k) reply = ack-safe s k reply
   read-safe (refuse s r) _ = refuse-safe s r
 
-  pub office-frame-safe : (bytes : List ℕ) → List·Memᴰ bytes (l .from-box) → OfficeTurnSafe l (rule-office-frame h (decode bytes))
-  office-frame-safe bytes m = let written = safe .replies bytes m in rw (written .decoded) (read-safe (written .frame) (written .holds))
+  pub office-frame-safe : (bytes : List ℕ) → List·Memᴰ bytes (l .from-box) → OfficeTurnSafe l (rule-office-frame h (decode Office bytes))
+  office-frame-safe bytes m = let written = safe .replies bytes m in rw (decoded-at Office reply-reader written) (read-safe (written .frame) (written .holds))

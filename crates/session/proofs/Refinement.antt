@@ -1,11 +1,15 @@
 -- Refinement: each call turns both ends as the history's rules turn the history, with the same answer.
 use Prim.Native.Nat.{ℕ}
-use mathlib.Core.Path.{_≡_, sym, _∙_, subst}
+use mathlib.Core.Path.{_≡_, sym, ap, _∙_, subst}
 use mathlib.Core.List.{List}
-use mathlib.Core.Option.{some, Option·some-injective}
+use mathlib.Core.Option.{Option·some-injective}
 use Rattle.bus.proofs.Settles.{fresh-ready}
 use Rattle.frame.specs.Frame.{Frame}
-use Rattle.link.specs.Encoding.{Valid, decode}
+use Rattle.link.specs.Encoding.{Valid}
+use Rattle.judging.specs.declared.End.the-variants.{Box}
+use Rattle.judging.specs.Decoding.{a-frame, decode}
+use Rattle.judging.specs.Theorems.{reader}
+use Rattle.judging.specs.View.{frame-read}
 use Rattle.session.specs.declared.Cab.{Cab}
 use Rattle.session.specs.declared.Ends.{Ends}
 use Rattle.session.specs.declared.Office.{Office}
@@ -14,9 +18,9 @@ use Rattle.session.specs.History.{BoxHistory, History, first-history, at
 use Rattle.session.specs.Turn.{Turn}
 use Rattle.session.proofs.Alike.{Alike}
 use Rattle.session.proofs.BoxAlike.{CabAlike, closed, restart-alike, box-alike}
-use Rattle.session.proofs.Invariant.{Safe}
+use Rattle.session.proofs.Invariant.{Safe, request-reader}
 use Rattle.session.proofs.OfficeAlike.{OfficeAlike, first-alike, opening-alike, issue-alike, resend-alike, reopen-alike, frame-alike, same-box, other-box}
-use Rattle.session.proofs.Tools.{Decodes}
+use Rattle.session.proofs.Tools.{Decodes, decoded-at}
 
 pub record EndsAlike (e : Ends) (h : History) : Type 0 where
   pub cab : CabAlike (e .cab) (h .box)
@@ -26,8 +30,8 @@ pub first-ends-alike : EndsAlike first-ends first-history
 first-ends-alike = record { cab = closed fresh-ready; office = first-alike }
 
 -- what was written by the office is valid
-said-valid : (P : Frame → Type 0) (bytes : List ℕ) → Decodes P bytes → (f : Frame) → decode bytes ≡ some f → Valid f
-said-valid P bytes said f e = subst Valid (Option·some-injective (said .frame) f (sym (said .decoded) ∙ e)) (said .valid)
+said-valid : (P : Frame → Type 0) → ((f : Frame) → P f → reader f ≡ Box) → (bytes : List ℕ) → Decodes P bytes → (f : Frame) → decode Box bytes ≡ a-frame f → Valid f
+said-valid P meant bytes said f e = subst Valid (Option·some-injective (said .frame) f (ap frame-read (sym (decoded-at Box meant said) ∙ e))) (said .valid)
 
 module _ (e : Ends) (h : History) (a : EndsAlike e h) where
   box-turn : (t : Turn Cab) (u : Turn BoxHistory) → Alike CabAlike t u → Alike EndsAlike (at-cab e t) (at-box h u)
@@ -49,7 +53,7 @@ module _ (e : Ends) (h : History) (a : EndsAlike e h) where
 
   pub call-alike : (l : Log) → Safe h l → (c : Call) → Permitted l c (answer-of (ends-rules e c)) → Alike EndsAlike (ends-rules e c) (rules h c)
   call-alike l safe (restart told) _ = box-turn _ _ (restart-alike (h .box) told)
-  call-alike l safe (box-frame bytes room) permitted = box-turn _ _ (box-alike (a .cab) bytes room (said-valid _ bytes (safe .requests bytes permitted)))
+  call-alike l safe (box-frame bytes room) permitted = box-turn _ _ (box-alike (a .cab) bytes room (said-valid _ request-reader bytes (safe .requests bytes permitted)))
   call-alike l safe (open-session s room) _ = office-turn _ _ (opening-alike (a .office) s room)
   call-alike l safe (issue c room) _ = office-turn _ _ (issue-alike (a .office) c room)
   call-alike l safe (resend n room) _ = office-turn _ _ (resend-alike (a .office) n room)

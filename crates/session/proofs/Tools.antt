@@ -13,8 +13,11 @@ use lib.Dec.{eqb}
 use borrow.Author.Tests.{eqb-true, eqb-false, eq-eqb, ne-eqb, not-true, not-false}
 use Rattle.base.proofs.Tests.{cond-cases}
 use Rattle.frame.specs.Frame.{Frame}
-use Rattle.link.specs.Encoding.{Valid, encode, decode}
-use Rattle.link.proofs.FrameTheorems.{decode-encode}
+use Rattle.link.specs.Encoding.{Valid, encode}
+use Rattle.judging.specs.declared.End.{End}
+use Rattle.judging.specs.Decoding.{a-frame, decode}
+use Rattle.judging.specs.Theorems.{reader}
+use Rattle.judging.proofs.Exact.{decode-encode}
 use Rattle.session.specs.History.{updated}
 
 -- a test that fails does not hold
@@ -92,16 +95,20 @@ module _ {A : Type 0} where
 
 -- ---- frames and their bytes
 
--- bytes that decode to a valid frame of which P holds
+-- bytes that decode to a valid frame of which P holds, at the end for which it is meant
 pub record Decodes (P : Frame → Type 0) (bytes : List ℕ) : Type 0 where
   pub frame : Frame
   pub encoded : bytes ≡ encode frame
-  pub decoded : decode bytes ≡ some frame
+  pub decoded : decode (reader frame) bytes ≡ a-frame frame
   pub valid : Valid frame
   pub holds : P frame
 
 abbrev pub EachDecodes : (Frame → Type 0) → List (List ℕ) → Type 0
 EachDecodes P frames = (bytes : List ℕ) → List·Memᴰ bytes frames → Decodes P bytes
+
+-- at an end for which every frame is meant of which P holds
+pub decoded-at : {P : Frame → Type 0} {bytes : List ℕ} (end : End) → ((f : Frame) → P f → reader f ≡ end) → (written : Decodes P bytes) → decode end bytes ≡ a-frame (written .frame)
+decoded-at {P} {bytes} end meant written = subst (λ (x : End). decode x bytes ≡ a-frame (written .frame)) (meant (written .frame) (written .holds)) (written .decoded)
 
 module _ (P : Frame → Type 0) (frames : List (List ℕ)) (each : EachDecodes P frames) where
   pub decodes-weaker : (Q : Frame → Type 0) → ((f : Frame) → P f → Q f) → EachDecodes Q frames
@@ -112,7 +119,7 @@ module _ (P : Frame → Type 0) (frames : List (List ℕ)) (each : EachDecodes P
   -- one more frame is written
   pub decodes-one-more : (f : Frame) → Valid f → P f → EachDecodes P (encode f ∷ frames)
   decodes-one-more f valid holds bytes (List·Memᴰ·head e) =
-      record { frame = f; encoded = e; decoded = ap decode e ∙ decode-encode f valid; valid = valid; holds = holds }
+      record { frame = f; encoded = e; decoded = ap (decode (reader f)) e ∙ decode-encode f valid; valid = valid; holds = holds }
   decodes-one-more f valid holds bytes (List·Memᴰ·tail m) = each bytes m
 
 -- ---- a call's answer b, tested as `!b`

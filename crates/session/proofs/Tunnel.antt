@@ -9,7 +9,8 @@ use Rattle.registers.specs.Block.{block, from-block}
 use Rattle.bus.specs.Commands.{lookup, access, write-register, perform-offered, perform-found}
 use Rattle.bus.specs.Bus.{after-length, after-data, start, judge, feed-at, inside, after}
 use Rattle.bus.specs.Run.{run}
-use Rattle.link.specs.Encoding.{encode, change-by-tag, frame-by-tag, decode}
+use Rattle.link.specs.Encoding.{encode}
+use Rattle.judging.specs.Decoding.{length-right, settings-allowed, contents-allowed, field-fault, last-fault, rest-fault, fault-told, change-in, frame-in, decode}
 use Rattle.order.specs.Apply.{apply}
 use Rattle.session.specs.Box as box
 use Rattle.session.specs.Office as office
@@ -27,7 +28,7 @@ pub call : {A B : Type 0} → A → B → A × B
 call permitted rest = (permitted, rest)
 
 pub tunnel-settles : TunnelSettles
-unfolding encode decode frame-by-tag change-by-tag block from-block offset magnitude sign box.frame-in box.received box.opened box.ordered box.ordered-here box.sent office.open-session office.issue-refusal office.issue office.resend office.welcomed office.acknowledged office.received packet-of fields escape escape-byte checksum total run after start inside feed-at judge after-length after-data perform-found perform-offered write-register lookup access apply has-escape
+unfolding encode decode fault-told rest-fault last-fault field-fault contents-allowed settings-allowed length-right frame-in change-in block from-block offset magnitude sign box.frame-in box.received box.opened box.ordered box.ordered-here box.sent office.open-session office.issue-refusal office.issue office.resend office.welcomed office.acknowledged office.received packet-of fields escape escape-byte checksum total run after start inside feed-at judge after-length after-data perform-found perform-offered write-register lookup access apply has-escape
 tunnel-settles =
     record {
       allowed =

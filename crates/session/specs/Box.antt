@@ -2,18 +2,19 @@
 use Prim.Native.Nat.{ℕ, _-_}
 use mathlib.Core.Bool.{Bool, true, false, cond}
 use mathlib.Core.List.{List}
-use mathlib.Core.Option.{Option, none, some}
 use lib.ListN.{replicate}
 use lib.Dec.{eqb, leb, ltb}
+use Rattle.base.specs.Refusal.{fault}
 use Rattle.bus.specs.declared.Controller.{Controller}
 use Rattle.bus.specs.Bus as bus
 use Rattle.bus.specs.Run.{run}
 use Rattle.frame.specs.Frame.{Change, Frame, opening, welcome, order, ack, refuse}
-use Rattle.link.specs.Encoding.{decode}
+use Rattle.judging.specs.declared.End.the-variants.{Box}
+use Rattle.judging.specs.Decoding.{Decoded, a-fault, a-frame, decode}
 use Rattle.link.specs.View.{frame-limit}
 use Rattle.order.specs.Apply.{order-packet}
 use Rattle.session.specs.declared.Cab.{Cab}
-use Rattle.session.specs.Turn.{Turn, wrote, refused, refused-by}
+use Rattle.session.specs.Turn.{Turn, wrote, refused, refused-by, faulted-by}
 
 -- ---- opening a session
 
@@ -73,17 +74,23 @@ ordered c s n change =
 
 -- ---- any frame
 
--- frames that are not for this end are refused as those that are not well formed
-unfoldable pub received : Cab → Option Frame → Turn Cab
-received c none = refused-by c 0 4
-received c (some (opening s)) = opened c s
-received c (some (welcome s σ)) = refused-by c 0 4
-received c (some (order s n change)) = ordered c s n change
-received c (some (ack s k)) = refused-by c 0 4
-received c (some (refuse s r)) = refused-by c 0 4
+-- to a frame for the other end, which `decode` does not give here
+abbrev pub not-for-box : Cab → Turn Cab
+not-for-box c = faulted-by c (fault 19 0)
+
+unfoldable pub received : Cab → Frame → Turn Cab
+received c (opening s) = opened c s
+received c (welcome s σ) = not-for-box c
+received c (order s n change) = ordered c s n change
+received c (ack s k) = not-for-box c
+received c (refuse s r) = not-for-box c
+
+abbrev pub judged : Cab → Decoded → Turn Cab
+judged c (a-fault f) = faulted-by c f
+judged c (a-frame frame) = received c frame
 
 -- a frame in, with `room` bytes lent for the answer
 unfoldable pub frame-in : Cab → List ℕ → ℕ → Turn Cab
 frame-in c bytes room =
     cond (ltb room frame-limit) (refused c 1)
-    (received c (decode bytes))
+    (judged c (decode Box bytes))

@@ -5,6 +5,7 @@ use mathlib.Core.Bool.{cond}
 use mathlib.Core.List.{List, [], _∷_, List·Memᴰ}
 use mathlib.Core.Option.{Option, none, some, Option·map, Option·getD}
 use lib.ListN.{getD}
+use Rattle.base.specs.Refusal.{Told}
 use Rattle.frame.specs.Frame.{Change, command, raise, lower}
 use Rattle.link.specs.Encoding.{encode}
 use Rattle.session.specs.declared.Cab.{Cab}
@@ -28,9 +29,9 @@ pub data Call : Type 0 where
   reopen : ℕ → Call
   office-frame : List ℕ → Call
 
--- the refusal's number or none, the bytes of the frame written or none
+-- what a refusal tells, its number and offset, or none; the bytes of the frame written or none
 pub record Answer : Type 0 where
-  pub refusal : Option ℕ
+  pub refusal : Option Told
   pub bytes : Option (List ℕ)
 
 abbrev pub answer-of : {A : Type 0} → Turn A → Answer
@@ -87,7 +88,7 @@ abbrev pub with-frame : Option (List ℕ) → List (List ℕ) → List (List ℕ
 with-frame none frames = frames
 with-frame (some bytes) frames = bytes ∷ frames
 
-abbrev pub named-unless : Option ℕ → ℕ → List ℕ → List ℕ
+abbrev pub named-unless : Option Told → ℕ → List ℕ → List ℕ
 named-unless none s named = s ∷ named
 named-unless (some refusal) s named = named
 

@@ -7,16 +7,18 @@ use mathlib.Core.List.{List, [], _∷_, _++_, foldl}
 use mathlib.Core.Option.{Option, none, some}
 use lib.ListN.{length, getElem?}
 use lib.Dec.{eqb, leb, ltb}
+use Rattle.base.specs.Refusal.{fault}
 use Rattle.settings.specs.declared.settings.Settings.{Settings}
 use Rattle.settings.specs.Settings.{fresh}
-use Rattle.frame.specs.Frame.{Change, too-long, Frame, opening, welcome, order, ack, refuse}
-use Rattle.link.specs.Encoding.{decode}
+use Rattle.frame.specs.Frame.{Change, too-long, opening, welcome, order, ack, refuse}
+use Rattle.judging.specs.declared.End.the-variants.{Box, Office}
+use Rattle.judging.specs.Decoding.{Decoded, a-fault, a-frame, decode}
 use Rattle.link.specs.View.{frame-limit}
 use Rattle.order.specs.Apply.{apply}
 use Rattle.session.specs.declared.Progress.{Progress}
 use Rattle.session.specs.declared.Progress.the-variants.{Settled, Waiting, Over}
 use Rattle.session.specs.Calls.{Call, restart, box-frame, open-session, issue, resend, reopen, office-frame}
-use Rattle.session.specs.Turn.{window-limit, order-limit, Turn, wrote, silent, refused, refused-by}
+use Rattle.session.specs.Turn.{window-limit, order-limit, Turn, wrote, silent, refused, refused-by, faulted, faulted-by}
 
 pub record BoxHistory : Type 0 where
   pub highest : ℕ
@@ -107,14 +109,14 @@ rule-order (some t) b s n c =
     (refused-by b s 7)))
     (refused-by b s 6)
 
--- frames that are not for the box are refused as those that are not well formed
-unfoldable pub rule-box-frame : BoxHistory → Option Frame → Turn BoxHistory
-rule-box-frame b none = refused-by b 0 4
-rule-box-frame b (some (opening s)) = rule-open b s
-rule-box-frame b (some (welcome s σ)) = refused-by b 0 4
-rule-box-frame b (some (order s n c)) = rule-order (b .session) b s n c
-rule-box-frame b (some (ack s k)) = refused-by b 0 4
-rule-box-frame b (some (refuse s r)) = refused-by b 0 4
+-- frames that are not for the box are told as such
+unfoldable pub rule-box-frame : BoxHistory → Decoded → Turn BoxHistory
+rule-box-frame b (a-fault f) = faulted-by b f
+rule-box-frame b (a-frame (opening s)) = rule-open b s
+rule-box-frame b (a-frame (welcome s σ)) = faulted-by b (fault 19 0)
+rule-box-frame b (a-frame (order s n c)) = rule-order (b .session) b s n c
+rule-box-frame b (a-frame (ack s k)) = faulted-by b (fault 19 0)
+rule-box-frame b (a-frame (refuse s r)) = faulted-by b (fault 19 0)
 
 -- ---- the office's rules
 
@@ -195,14 +197,14 @@ rule-refuse h s r =
     let o = h .office in
     cond ((is-awaiting (o .stage) || is-live (o .stage)) && eqb s (o .session) && (eqb r 5 || eqb r 6)) (with-office h ended (o .settings) (o .confirmed)) h
 
--- frames that are not for the office are refused as those that are not well formed
-unfoldable pub rule-office-frame : History → Option Frame → Turn History
-rule-office-frame h none = refused h 4
-rule-office-frame h (some (opening s)) = refused h 4
-rule-office-frame h (some (welcome s σ)) = silent (rule-welcome h s σ)
-rule-office-frame h (some (order s n c)) = refused h 4
-rule-office-frame h (some (ack s k)) = silent (rule-ack h s k)
-rule-office-frame h (some (refuse s r)) = silent (rule-refuse h s r)
+-- frames that are not for the office are told as such
+unfoldable pub rule-office-frame : History → Decoded → Turn History
+rule-office-frame h (a-fault f) = faulted h f
+rule-office-frame h (a-frame (opening s)) = faulted h (fault 19 0)
+rule-office-frame h (a-frame (welcome s σ)) = silent (rule-welcome h s σ)
+rule-office-frame h (a-frame (order s n c)) = faulted h (fault 19 0)
+rule-office-frame h (a-frame (ack s k)) = silent (rule-ack h s k)
+rule-office-frame h (a-frame (refuse s r)) = silent (rule-refuse h s r)
 
 -- what the office says of its session: 01's word
 abbrev pub progress-at : Stage → History → Progress
@@ -221,9 +223,9 @@ at-box h t = record { state = record { issued = h .issued; box = t .state; offic
 
 abbrev pub rules : History → Call → Turn History
 rules h (restart told) = at-box h (silent (restarted (h .box) told))
-rules h (box-frame bytes room) = at-box h (cond (ltb room frame-limit) (refused (h .box) 1) (rule-box-frame (h .box) (decode bytes)))
+rules h (box-frame bytes room) = at-box h (cond (ltb room frame-limit) (refused (h .box) 1) (rule-box-frame (h .box) (decode Box bytes)))
 rules h (open-session s room) = rule-opening h s room
 rules h (issue c room) = rule-issue h c room
 rules h (resend n room) = rule-resend h n room
 rules h (reopen room) = rule-reopen h room
-rules h (office-frame bytes) = rule-office-frame h (decode bytes)
+rules h (office-frame bytes) = rule-office-frame h (decode Office bytes)

@@ -5,10 +5,12 @@ use mathlib.Core.List.{List}
 use mathlib.Core.Option.{Option, none, some}
 use lib.ListN.{getD, set, replicate}
 use lib.Dec.{eqb, leb, ltb}
+use Rattle.base.specs.Refusal.{fault}
 use Rattle.settings.specs.declared.settings.Settings.{Settings}
 use Rattle.settings.specs.Settings.{fresh}
 use Rattle.frame.specs.Frame.{Change, raise, too-long, Frame, opening, welcome, order, ack, refuse}
-use Rattle.link.specs.Encoding.{decode}
+use Rattle.judging.specs.declared.End.the-variants.{Office as AtOffice}
+use Rattle.judging.specs.Decoding.{Decoded, a-fault, a-frame, decode}
 use Rattle.frame.specs.View.{asked, change-of}
 use Rattle.link.specs.View.{frame-limit}
 use Rattle.order.specs.Apply.{apply}
@@ -18,7 +20,7 @@ use Rattle.session.specs.declared.Progress.{Progress}
 use Rattle.session.specs.declared.Progress.the-variants.{Settled, Waiting, Over}
 use Rattle.session.specs.declared.Stage.{Stage}
 use Rattle.session.specs.declared.Stage.the-variants.{Unopened, Awaiting, Live, Ended}
-use Rattle.session.specs.Turn.{window-limit, order-limit, Turn, wrote, silent, refused}
+use Rattle.session.specs.Turn.{window-limit, order-limit, Turn, wrote, silent, refused, faulted}
 
 -- ---- the office's state
 
@@ -137,17 +139,23 @@ ended o s r =
     (cond (eqb r 5 || eqb r 6) (with-stage o Ended)
     o) o) o
 
--- frames that are not for this end are refused as those that are not well formed
-unfoldable pub received : Office → Option Frame → Turn Office
-received o none = refused o 4
-received o (some (opening s)) = refused o 4
-received o (some (welcome s σ)) = silent (welcomed o s σ)
-received o (some (order s n change)) = refused o 4
-received o (some (ack s k)) = silent (acknowledged o s k)
-received o (some (refuse s r)) = silent (ended o s r)
+-- to a frame for the other end, which `decode` does not give here
+abbrev pub not-for-office : Office → Turn Office
+not-for-office o = faulted o (fault 19 0)
+
+unfoldable pub received : Office → Frame → Turn Office
+received o (opening s) = not-for-office o
+received o (welcome s σ) = silent (welcomed o s σ)
+received o (order s n change) = not-for-office o
+received o (ack s k) = silent (acknowledged o s k)
+received o (refuse s r) = silent (ended o s r)
+
+abbrev pub judged : Office → Decoded → Turn Office
+judged o (a-fault f) = faulted o f
+judged o (a-frame frame) = received o frame
 
 abbrev pub frame-in : Office → List ℕ → Turn Office
-frame-in o bytes = received o (decode bytes)
+frame-in o bytes = judged o (decode AtOffice bytes)
 
 -- ---- the progress: 01's word
 

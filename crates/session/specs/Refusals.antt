@@ -1,23 +1,17 @@
 -- Demand 1 at both ends, stated: a call that refuses changes nothing, and writes nothing but the box's REFUSE. It is proved in proofs/Refusals.antt.
 use Prim.Native.Nat.{ℕ, _≤_}
 use mathlib.Core.Path.{_≡_}
-use mathlib.Core.Bool.{Bool, true, false}
 use mathlib.Core.List.{List}
-use mathlib.Core.Option.{Option, none, some}
-use Rattle.frame.specs.Frame.{Change, Frame, opening, welcome, order, ack, refuse}
-use Rattle.link.specs.Encoding.{decode}
+use mathlib.Core.Option.{Option, none}
+use Rattle.base.specs.Bytes.{Bytes}
+use Rattle.base.specs.Refusal.{Fault}
+use Rattle.frame.specs.Frame.{Change, Frame, opening, order}
+use Rattle.judging.specs.declared.End.the-variants.{Box, Office}
+use Rattle.judging.specs.Decoding.{a-frame, decode}
+use Rattle.judging.specs.Faults.{faults, Least}
 use Rattle.session.specs.declared.Ends.{Ends}
 use Rattle.session.specs.Calls.{Call, box-frame, open-session, issue, resend, reopen, office-frame, ends-rules}
-use Rattle.session.specs.Turn.{Turn, refused, refused-by}
-
--- OPEN and ORDER are the frames for the box
-abbrev pub for-box : Option Frame → Bool
-for-box none = false
-for-box (some (opening s)) = true
-for-box (some (welcome s σ)) = false
-for-box (some (order s n c)) = true
-for-box (some (ack s k)) = false
-for-box (some (refuse s r)) = false
+use Rattle.session.specs.Turn.{Turn, refused, refused-by, faulted, faulted-by}
 
 -- A call from the ends e, and its turn: it accepts, or it keeps e and writes what is said here. A restart only accepts.
 pub data Keeps (e : Ends) : Call → Turn Ends → Type 0 where
@@ -27,12 +21,12 @@ pub data Keeps (e : Ends) : Call → Turn Ends → Type 0 where
   issuing-refused : {c : Change} {room number : ℕ} → Keeps e (issue c room) (refused e number)
   resending-refused : {n room number : ℕ} → Keeps e (resend n room) (refused e number)
   reopening-refused : {room number : ℕ} → Keeps e (reopen room) (refused e number)
-  office-frame-refused : {bytes : List ℕ} → Keeps e (office-frame bytes) (refused e 4)
-  -- the box: no frame for 1; REFUSE for 4, naming session 0; REFUSE for 5 to 7, naming the refused frame's session
+  office-frame-faulty : {bytes : List ℕ} {f : Fault} → (Bytes bytes → Least f (faults Office bytes)) → Keeps e (office-frame bytes) (faulted e f)
+  -- the box: no frame for 1; REFUSE for a fault, naming session 0; REFUSE for 5 to 7, naming the refused frame's session
   output-short : {bytes : List ℕ} {room : ℕ} → Keeps e (box-frame bytes room) (refused e 1)
-  not-for-box : {bytes : List ℕ} {room : ℕ} → for-box (decode bytes) ≡ false → Keeps e (box-frame bytes room) (refused-by e 0 4)
-  open-refused : {bytes : List ℕ} {room s : ℕ} → decode bytes ≡ some (opening s) → Keeps e (box-frame bytes room) (refused-by e s 6)
-  order-refused : {bytes : List ℕ} {room s n number : ℕ} {c : Change} → decode bytes ≡ some (order s n c) → 5 ≤ number → number ≤ 7 →
+  box-frame-faulty : {bytes : List ℕ} {room : ℕ} {f : Fault} → (Bytes bytes → Least f (faults Box bytes)) → Keeps e (box-frame bytes room) (faulted-by e f)
+  open-refused : {bytes : List ℕ} {room s : ℕ} → decode Box bytes ≡ a-frame (opening s) → Keeps e (box-frame bytes room) (refused-by e s 6)
+  order-refused : {bytes : List ℕ} {room s n number : ℕ} {c : Change} → decode Box bytes ≡ a-frame (order s n c) → 5 ≤ number → number ≤ 7 →
       Keeps e (box-frame bytes room) (refused-by e s number)
 
 -- every call at either end, from every state
