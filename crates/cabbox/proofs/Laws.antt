@@ -9,6 +9,11 @@ use Rattle.frame.specs.Frame.{data-limit}
 use Rattle.frame.specs.View.{asked}
 use Rattle.frame.specs.declared.frame.Change.{Change}
 use Rattle.order.specs.Apply.{change-command, change-data, order-packet}
+use Rattle.judging.specs.Decoding.{Decoded, a-fault, a-frame}
+use Rattle.judging.specs.View.{fault-in, frame-read}
+use Rattle.session.specs.declared.Cab.{Cab}
+use Rattle.session.specs.Box as box
+use Rattle.cabbox.specs.View.{judged}
 use Rattle.packet.proofs.PacketTheorems.{packet-of-short}
 use Rattle.order.proofs.Keeps.{data-short}
 
@@ -21,3 +26,8 @@ pub order-fits : (level : ℕ) (change : Change) → length (change .body) ≡ d
 order-fits level change body =
     let few : length (take (change .count) (change .body)) ≤ data-limit = rw length-take (omega arith) in
     packet-of-short (change-command (asked change)) (change-data level (asked change)) (data-short level (change .ask) (take (change .count) (change .body)) few)
+
+-- what is made of bytes, from what is found in them and the frame read
+pub judged-decoded : (c : Cab) (d : Decoded) → judged c (fault-in d) (frame-read d) ≡ box.judged c d
+judged-decoded c (a-fault f) = refl
+judged-decoded c (a-frame f) = refl

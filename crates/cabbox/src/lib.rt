@@ -1,6 +1,7 @@
 // The cab box: it holds the controller, and takes each order of the open session once and in its turn.
 mod obey;
 
+use base::FrameFault;
 use base::Refusal;
 use frame::Change;
 use frame::Frame;
@@ -8,6 +9,9 @@ use frame::Kind;
 use frame::OrderNumber;
 use frame::SessionId;
 use frame::Verdict;
+use judging::End;
+use judging::Found;
+use judging::Judged;
 use link::FRAME_LIMIT;
 use obey::obey;
 use session::Cab;
@@ -15,13 +19,14 @@ ghost use mathlib.Core.Path.{_≡_};
 ghost use mathlib.Core.Bool.{cond};
 ghost use lib.Dec.{eqb};
 ghost use lib.ListN.{length};
-ghost use Rattle.base.specs.Refusal.{number};
+ghost use Rattle.base.specs.Refusal.{told};
 ghost use Prim.Native.Nat.{_≤_};
 ghost use Rattle.frame.specs.View.{asked, meaning};
+ghost use Rattle.judging.specs.View.{fault-of};
 ghost use Rattle.link.specs.View.{encoding-of, frame-limit};
 ghost use Rattle.base.specs.Lent.{overwritten};
 ghost use Rattle.session.specs.Box as spec;
-ghost use Rattle.session.specs.Turn.{refused-by};
+ghost use Rattle.session.specs.Turn.{refuses};
 ghost use Rattle.cabbox.specs.View as view;
 
 // What a frame in gives. A frame of len bytes was written at the start of the output.
@@ -48,7 +53,7 @@ fn accepted(cab: Cab, frame: Frame) -> Turn
 }
 
 fn refused(cab: Cab, session: SessionId, refusal: Refusal) -> Turn
-    ensures { λ r. ⌜ view.turn r ≡ refused-by cab (session .0) (number refusal) ⌝ }
+    ensures { λ r. ⌜ view.turn r ≡ refuses cab (session .0) (told refusal) ⌝ }
 {
     Turn {
         cab,
@@ -152,20 +157,38 @@ fn ordered(cab: Cab, session: SessionId, number: OrderNumber, change: Change) ->
     refused(cab, session, Refusal::NoOpenSession)
 }
 
+// A frame's fault. Its session is not told.
+fn faulted(cab: Cab, fault: FrameFault, offset: usize) -> Turn
+    ensures { λ r. ⌜ view.turn r ≡ view.faulted cab fault offset ⌝ }
+{
+    refused(cab, SessionId(0), Refusal::Frame(fault, offset))
+}
+
+// What is no frame for the box is found out before; here too it is answered.
 fn received(cab: Cab, frame: Frame) -> Turn
-    ensures { λ r. ⌜ view.turn r ≡ spec.received cab (meaning frame) ⌝ }
+    ensures { λ r. ⌜ view.turn r ≡ view.received cab (meaning frame) ⌝ }
 {
     let kind = frame.kind;
     let session = frame.session;
     let number = frame.number;
     let change = frame.change;
     match kind {
-        Kind::Malformed => refused(cab, SessionId(0), Refusal::MalformedFrame),
+        Kind::Malformed => faulted(cab, FrameFault::OtherEnd, 0),
         Kind::Opening => opened(cab, session),
-        Kind::Welcome => refused(cab, SessionId(0), Refusal::MalformedFrame),
+        Kind::Welcome => faulted(cab, FrameFault::OtherEnd, 0),
         Kind::Order => ordered(cab, session, number, change),
-        Kind::Ack => refused(cab, SessionId(0), Refusal::MalformedFrame),
-        Kind::Refuse(_) => refused(cab, SessionId(0), Refusal::MalformedFrame),
+        Kind::Ack => faulted(cab, FrameFault::OtherEnd, 0),
+        Kind::Refuse(_) => faulted(cab, FrameFault::OtherEnd, 0),
+    }
+}
+
+fn taken(cab: Cab, judged: Judged) -> Turn
+    ensures { λ r. ⌜ view.turn r ≡ view.judged cab (fault-of (judged .found)) (meaning (judged .frame)) ⌝ }
+{
+    let found = judged.found;
+    match found {
+        Found::Nothing => received(cab, judged.frame),
+        Found::At(fault, offset) => faulted(cab, fault, offset),
     }
 }
 
@@ -188,12 +211,12 @@ fn answer(turn: Turn, out: &mut [u8]) -> Answered
     Answered { cab, verdict, len }
 }
 
-// Takes a frame where there is room for any answer.
-fn respond(cab: Cab, frame: Frame, out: &mut [u8]) -> Answered
+// Takes what bytes are where there is room for any answer.
+fn respond(cab: Cab, judged: Judged, out: &mut [u8]) -> Answered
     requires { ⌜ frame-limit ≤ length (now out) ⌝ }
-    ensures { λ r. ⌜ view.Gives (spec.received cab (meaning frame)) r (now (out .entry)) (now (out .exit)) ⌝ }
+    ensures { λ r. ⌜ view.Gives (view.judged cab (fault-of (judged .found)) (meaning (judged .frame))) r (now (out .entry)) (now (out .exit)) ⌝ }
 {
-    answer(received(cab, frame), &mut *out)
+    answer(taken(cab, judged), &mut *out)
 }
 
 // Takes any bytes as a frame, and writes the answer at the start of out.
@@ -207,5 +230,5 @@ pub fn frame_in(cab: Cab, bytes: &[u8], out: &mut [u8]) -> Answered
             len: 0,
         };
     }
-    respond(cab, decoding::decode(bytes), &mut *out)
+    respond(cab, decoding::decode(End::Box, bytes), &mut *out)
 }

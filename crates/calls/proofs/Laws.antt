@@ -2,13 +2,15 @@
 use Prim.Native.Nat.{ℕ}
 use mathlib.Core.Path.{_≡_, refl, ap}
 use mathlib.Core.List.{List}
-use mathlib.Core.Option.{Option, none, some}
-use Rattle.frame.specs.Frame.{Frame, opening, welcome, order, ack, refuse}
+use mathlib.Core.Option.{none}
+use Rattle.frame.specs.Frame.{opening, welcome, order, ack, refuse}
+use Rattle.judging.specs.declared.End.the-variants.{Office as AtOffice}
+use Rattle.judging.specs.Decoding.{Decoded, a-fault, a-frame, decode}
 use Rattle.session.specs.declared.Cab.{Cab}
 use Rattle.session.specs.declared.Ends.{Ends}
 use Rattle.session.specs.declared.Office.{Office}
 use Rattle.session.specs.Calls.{at-cab, at-office}
-use Rattle.session.specs.Office.{received}
+use Rattle.session.specs.Office.{received, judged, frame-in}
 use Rattle.session.specs.Turn.{Turn, silent}
 use Rattle.frame.specs.declared.verdict.Verdict.the-variants.{Accepted}
 use Rattle.cabbox.specs.View as cabbox
@@ -21,14 +23,14 @@ use Rattle.calls.specs.declared.Answered.{Answered}
 use Rattle.calls.specs.View.{Runs, answered}
 
 -- the office writes nothing to a frame in
-no-frame : (o : Office) (m : Option Frame) → received o m .frame ≡ none
+no-frame : (o : Office) (m : Decoded) → judged o m .frame ≡ none
 unfolding received
-no-frame o none = refl
-no-frame o (some (opening s)) = refl
-no-frame o (some (welcome s σ)) = refl
-no-frame o (some (order s n change)) = refl
-no-frame o (some (ack s k)) = refl
-no-frame o (some (refuse s why)) = refl
+no-frame o (a-fault f) = refl
+no-frame o (a-frame (opening s)) = refl
+no-frame o (a-frame (welcome s σ)) = refl
+no-frame o (a-frame (order s n change)) = refl
+no-frame o (a-frame (ack s k)) = refl
+no-frame o (a-frame (refuse s why)) = refl
 
 -- a turn of one end, the other as it was
 abbrev cab-turn : Turn Cab → Office → Turn Ends
@@ -62,10 +64,10 @@ module _ (r : Answered) where
   pub restart-runs : (c : Cab) (kept : Office) (out : List ℕ) → r ≡ answered c kept Accepted 0 → Runs (cab-turn (silent c) kept) r out out
   restart-runs c kept out made = rw made (record { state-is = refl; refusal-is = refl; length-is = refl; output-is = refl })
 
-  pub frame-runs : (o : Office) (m : Option Frame) (kept : Cab) (done : Received) (out : List ℕ) → receiving.Takes (received o m) done →
-      r ≡ answered kept (done .office) (done .verdict) 0 → Runs (office-turn (received o m) kept) r out out
-  frame-runs o m kept done out given made =
-      rw (made, no-frame o m) (record {
+  pub frame-runs : (o : Office) (bytes : List ℕ) (kept : Cab) (done : Received) (out : List ℕ) → receiving.Takes (frame-in o bytes) done →
+      r ≡ answered kept (done .office) (done .verdict) 0 → Runs (office-turn (frame-in o bytes) kept) r out out
+  frame-runs o bytes kept done out given made =
+      rw (made, no-frame o (decode AtOffice bytes)) (record {
         state-is = ap (λ (x : Office). record { cab = kept; office = x }) (given .state-is);
         refusal-is = given .refusal-is;
         length-is = refl;

@@ -1,10 +1,11 @@
 -- When issuing is not refused.
 use mathlib.Core.Path.{_≡_, refl}
-use mathlib.Core.Option.{Option, none, some}
+use mathlib.Core.Option.{Option, none, some, Option·map}
 use mathlib.Core.Bool.{false}
 use Prim.Native.Nat.{ℕ, _+_, _-_, _≤_}
 use lib.Dec.{eqb, leb, ltb}
 use borrow.Author.Tests.{ltb-false, eqb-false}
+use Rattle.base.specs.Refusal.{plain}
 use Rattle.base.proofs.Tests.{cond-cases}
 use Rattle.frame.specs.Frame.{Change, too-long, order}
 use Rattle.link.specs.View.{frame-limit}
@@ -29,10 +30,10 @@ issue-decided o change room =
     (λ _. yes (eqb-false (o .issued .0) order-limit left, short, ltb-false room frame-limit fitting))))))
     (λ _. no)
 
-pub issue-refused : (o : Office) (change : Change) (room : ℕ) → issue-refusal o change room ≡ issue o change room .refusal
+pub issue-refused : (o : Office) (change : Change) (room : ℕ) → Option·map plain (issue-refusal o change room) ≡ issue o change room .refusal
 unfolding issue
 issue-refused o change room = by (issue-refusal o change room)
   where
-    by : (why : Option ℕ) → why ≡ issue-unless why o change .refusal
+    by : (why : Option ℕ) → Option·map plain why ≡ issue-unless why o change .refusal
     by none = refl
     by (some number) = refl

@@ -16,10 +16,11 @@ use session::WINDOW_LIMIT;
 use session::is_live;
 ghost use mathlib.Core.Path.{_≡_};
 ghost use mathlib.Core.Bool.{false};
-ghost use mathlib.Core.Option.{none};
+ghost use mathlib.Core.Option.{none, Option·map};
 ghost use Prim.Native.Nat.{_-_, _≤_};
 ghost use lib.ListN.{length};
 ghost use Rattle.frame.specs.Frame as frames;
+ghost use Rattle.base.specs.Refusal.{plain};
 ghost use Rattle.frame.specs.View.{asked, asked-as, change-of, refusal-of};
 ghost use Rattle.link.specs.View.{frame-limit};
 ghost use Rattle.session.specs.Office as spec;
@@ -61,7 +62,7 @@ fn unanswered(issued: u16, confirmed: u16) -> u16
 }
 
 fn count_refusal(issued: u16, confirmed: u16) -> Verdict
-    ensures { λ r. ⌜ refusal-of r ≡ view.count-refusal issued confirmed ⌝ }
+    ensures { λ r. ⌜ refusal-of r ≡ Option·map plain (view.count-refusal issued confirmed) ⌝ }
 {
     if issued == ORDER_LIMIT {
         return Verdict::Refused(Refusal::OrderNumbersExhausted);
@@ -74,7 +75,7 @@ fn count_refusal(issued: u16, confirmed: u16) -> Verdict
 }
 
 fn issue_refusal(office: Office, ask: Ask, bytes: &[u8], room: usize) -> Verdict
-    ensures { λ r. ⌜ refusal-of r ≡ spec.issue-refusal office (asked-as ask (now (bytes .entry))) room ⌝ }
+    ensures { λ r. ⌜ refusal-of r ≡ Option·map plain (spec.issue-refusal office (asked-as ask (now (bytes .entry))) room) ⌝ }
 {
     let stage = office.stage;
     if !is_live(stage) {

@@ -6,7 +6,7 @@ use mathlib.Core.List.{List}
 use Prim.Native.Nat.{ℕ, _≤_}
 use lib.ListN.{length}
 use lib.Dec.{ltb}
-use Rattle.base.specs.Refusal.{number}
+use Rattle.base.specs.Refusal.{Told, told as told-by}
 use Rattle.base.specs.declared.refusal.Refusal.{Refusal}
 use Rattle.frame.specs.Frame.{data-limit, Frame}
 use Rattle.frame.specs.View.{meaning, refusal-of}
@@ -28,8 +28,8 @@ pub data Decided (o : Office) (Fits : Type 0) (after : Office) (f : Frame) : Tur
   yes : Fits → Decided o Fits after f (wrote after f)
 
 module _ {o after : Office} {Fits : Type 0} {f : Frame} where
-  when-refused : {t : Turn Office} → Decided o Fits after f t → (why : ℕ) → t .refusal ≡ some why → t ≡ refused o why
-  when-refused no why e = rw (Option·some-injective _ _ e)
+  when-refused : {t : Turn Office} → Decided o Fits after f t → (why : Told) → t .refusal ≡ some why → t ≡ record { state = o; refusal = some why; frame = none }
+  when-refused no why e = ap (λ (x : Told). record { state = o; refusal = some x; frame = none }) (Option·some-injective _ _ e)
   when-refused (yes _) why e = absurd (Option·none-ne-some _ e)
 
   when-accepted : {t : Turn Office} → Decided o Fits after f t → t .refusal ≡ none → Fits × (t ≡ wrote after f)
@@ -47,7 +47,7 @@ module _ {o after : Office} {Fits : Type 0} {f : Frame} where
 
     pub gives-refusal : (why : Refusal) → v ≡ Refused why → (out : List ℕ) → Gives t (record { office = o; verdict = v; len = 0 }) out out
     gives-refusal why e out =
-        rw (when-refused d (number why) (sym told ∙ ap refusal-of e), e) (record { state-is = refl; refusal-is = refl; length-is = refl; output-is = refl })
+        rw (when-refused d (told-by why) (sym told ∙ ap refusal-of e), e) (record { state-is = refl; refusal-is = refl; length-is = refl; output-is = refl })
 
 -- ---- a frame sent
 

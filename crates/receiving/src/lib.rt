@@ -1,10 +1,14 @@
 // Frames from the box, at the office.
+use base::FrameFault;
 use base::Refusal;
 use frame::Frame;
 use frame::Kind;
 use frame::OrderNumber;
 use frame::SessionId;
 use frame::Verdict;
+use judging::End;
+use judging::Found;
+use judging::Judged;
 use session::Office;
 use session::Stage;
 use session::is_awaiting;
@@ -14,6 +18,7 @@ ghost use mathlib.Core.Path.{_≡_};
 ghost use mathlib.Core.Bool.{cond, _||_};
 ghost use lib.Dec.{eqb};
 ghost use Rattle.frame.specs.View.{meaning};
+ghost use Rattle.judging.specs.View.{fault-of};
 ghost use Rattle.session.specs.Office as spec;
 ghost use Rattle.receiving.specs.View as view;
 
@@ -153,27 +158,37 @@ fn accepted(office: Office) -> Received
     }
 }
 
-fn not_understood(office: Office) -> Received
-    ensures { λ r. ⌜ r ≡ record { office = office; verdict = Verdict.Refused Refusal.MalformedFrame } ⌝ }
+fn faulted(office: Office, fault: FrameFault, offset: usize) -> Received
+    ensures { λ r. ⌜ r ≡ record { office = office; verdict = Verdict.Refused (Refusal.Frame fault offset) } ⌝ }
 {
     Received {
         office,
-        verdict: Verdict::Refused(Refusal::MalformedFrame),
+        verdict: Verdict::Refused(Refusal::Frame(fault, offset)),
     }
 }
 
-// A frame for the box is refused like one that is not well formed.
+// What is no frame for the office is found out before; here too it is answered.
 fn received_frame(office: Office, frame: Frame) -> Received
-    ensures { λ r. ⌜ view.Takes (spec.received office (meaning frame)) r ⌝ }
+    ensures { λ r. ⌜ view.Takes (view.received office (meaning frame)) r ⌝ }
 {
     let kind = frame.kind;
     match kind {
-        Kind::Malformed => not_understood(office),
-        Kind::Opening => not_understood(office),
+        Kind::Malformed => faulted(office, FrameFault::OtherEnd, 0),
+        Kind::Opening => faulted(office, FrameFault::OtherEnd, 0),
         Kind::Welcome => accepted(welcomed(office, frame.session, frame.settings)),
-        Kind::Order => not_understood(office),
+        Kind::Order => faulted(office, FrameFault::OtherEnd, 0),
         Kind::Ack => accepted(acknowledged(office, frame.session, frame.number)),
         Kind::Refuse(refusal) => accepted(ended(office, frame.session, refusal)),
+    }
+}
+
+fn taken(office: Office, judged: Judged) -> Received
+    ensures { λ r. ⌜ view.Takes (view.judged office (fault-of (judged .found)) (meaning (judged .frame))) r ⌝ }
+{
+    let found = judged.found;
+    match found {
+        Found::Nothing => received_frame(office, judged.frame),
+        Found::At(fault, offset) => faulted(office, fault, offset),
     }
 }
 
@@ -181,5 +196,5 @@ fn received_frame(office: Office, frame: Frame) -> Received
 pub fn frame_in(office: Office, bytes: &[u8]) -> Received
     ensures { λ r. ⌜ view.Takes (spec.frame-in office (now (bytes .entry))) r ⌝ }
 {
-    received_frame(office, decoding::decode(bytes))
+    taken(office, decoding::decode(End::Office, bytes))
 }

@@ -7,14 +7,14 @@ use Rattle.receiving.proofs.received_frame.Tie as tie
 enum-told : tie.Need-enum-told
 enum-told c = search needs
 
-not-understood-requires : tie.Need-not-understood-requires
-not-understood-requires c κs = search needs
+faulted-requires : tie.Need-faulted-requires
+faulted-requires c κs = search needs
 
 enum-told-2 : tie.Need-enum-told-2
 enum-told-2 c = search needs
 
-not-understood-requires-2 : tie.Need-not-understood-requires-2
-not-understood-requires-2 c κs = search needs
+faulted-requires-2 : tie.Need-faulted-requires-2
+faulted-requires-2 c κs = search needs
 
 enum-told-3 : tie.Need-enum-told-3
 enum-told-3 c = search needs
@@ -28,8 +28,8 @@ accepted-requires c κs = search needs
 enum-told-4 : tie.Need-enum-told-4
 enum-told-4 c = search needs
 
-not-understood-requires-3 : tie.Need-not-understood-requires-3
-not-understood-requires-3 c κs = search needs
+faulted-requires-3 : tie.Need-faulted-requires-3
+faulted-requires-3 c κs = search needs
 
 enum-told-5 : tie.Need-enum-told-5
 enum-told-5 c = search needs
@@ -51,11 +51,11 @@ accepted-requires-3 c κs = search needs
 
 returns : tie.Need-returns
 unfolding received
-returns c = takes-none _ _ _ (rw (c .before .enum-told .given .1)) (c .not-understood .ensures)
+returns c = takes-none _ _ _ _ _ (rw (c .before .enum-told .given .1)) (c .faulted .ensures)
 
 returns-2 : tie.Need-returns-2
 unfolding received
-returns-2 c = takes-none _ _ _ (rw (c .before .enum-told2 .given .1)) (c .not-understood2 .ensures)
+returns-2 c = takes-none _ _ _ _ _ (rw (c .before .enum-told2 .given .1)) (c .faulted2 .ensures)
 
 returns-3 : tie.Need-returns-3
 unfolding received
@@ -63,7 +63,7 @@ returns-3 c = takes-frame _ _ _ (rw (c .before .before .enum-told3 .given .1, c 
 
 returns-4 : tie.Need-returns-4
 unfolding received
-returns-4 c = takes-none _ _ _ (rw (c .before .enum-told4 .given .1)) (c .not-understood3 .ensures)
+returns-4 c = takes-none _ _ _ _ _ (rw (c .before .enum-told4 .given .1)) (c .faulted3 .ensures)
 
 returns-5 : tie.Need-returns-5
 unfolding received
@@ -78,14 +78,14 @@ received-frame-spec =
     tie.close
     (tie.spec
     enum-told
-    not-understood-requires
+    faulted-requires
     enum-told-2
-    not-understood-requires-2
+    faulted-requires-2
     enum-told-3
     welcomed-requires
     accepted-requires
     enum-told-4
-    not-understood-requires-3
+    faulted-requires-3
     enum-told-5
     acknowledged-requires
     accepted-requires-2
