@@ -88,7 +88,7 @@ fn after_call(cab: Cab, refused: u64, received: Received) -> Station {
             refused,
             goes_on: true,
         },
-        Event::Refused(_) => Station {
+        Event::Refused(_, _) => Station {
             cab,
             receiver,
             refused: std::num::wrapping_add_u64(refused, 1),

@@ -3,6 +3,7 @@ use crate::buffers::Memory;
 use crate::frames::GIVEN;
 use calls::Call;
 use frame::SessionId;
+use judging::End;
 use packet::Access;
 
 // What can be wrong with a line.
@@ -15,6 +16,7 @@ pub(crate) enum Fault {
     NoSuchFrame,
     NotAFrame,
     NoSuchRegister,
+    NotARefusal,
     TooManyWords,
 }
 
@@ -62,7 +64,8 @@ pub(crate) enum Made {
     Packet(u8, Access),
     Reply(Access),
     Encoded,
-    Decoded,
+    // As a frame for this end.
+    Decoded(End),
     // The output has so many bytes.
     Wrapped(usize),
 }
@@ -73,6 +76,8 @@ pub(crate) enum Said {
     Wrong(Fault),
     Told(Told),
     Made(Made),
+    // A refusal's number, and the offset that it tells, if it tells one.
+    Explained(u64, u64),
 }
 
 // What changes something, and is no call at box or office alone.

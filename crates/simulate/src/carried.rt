@@ -7,8 +7,8 @@ use crate::asked::Fault;
 use crate::asked::Range;
 use crate::buffers::Memory;
 use crate::frames;
-use crate::frames::End;
 use calls::Call;
+use judging::End;
 use text::DecimalRead;
 
 pub(crate) enum FrameRead {

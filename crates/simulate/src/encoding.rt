@@ -21,6 +21,8 @@ use frame::Kind;
 use frame::OrderNumber;
 use frame::SessionId;
 use frame::Verdict;
+use judging::End;
+use judging::Found;
 use settings::Settings;
 use text::HexByte;
 
@@ -157,9 +159,17 @@ fn second_number(kind: Kind, number: OrderNumber) -> u64 {
     number.0 as u64
 }
 
-// decode BYTES
-pub(crate) fn decoded(out: &mut Output, at: usize, bytes: &[u8]) -> usize {
-    let frame = decoding::decode(bytes);
+// decode box BYTES, decode office BYTES
+pub(crate) fn decoded(out: &mut Output, at: usize, end: End, bytes: &[u8]) -> usize {
+    let judged = decoding::decode(end, bytes);
+    let found = judged.found;
+    match found {
+        Found::Nothing => told(&mut *out, at, judged.frame),
+        Found::At(fault, offset) => print::faulty(&mut *out, at, fault, offset),
+    }
+}
+
+fn told(out: &mut Output, at: usize, frame: Frame) -> usize {
     let kind = frame.kind;
     let n = [frame.session.0 as u64, second_number(kind, frame.number)];
     let row = b"malformed|open _|welcome _|order _ _|ack _ _|refuse _ _";

@@ -4,7 +4,6 @@ use crate::asked::Asked;
 use crate::buffers::Memory;
 use crate::buffers::Output;
 use crate::frames;
-use crate::frames::End;
 use crate::lending;
 use crate::print;
 use crate::world::Notes;
@@ -12,6 +11,7 @@ use calls::Call;
 use frame::Ask;
 use frame::Frame;
 use frame::SessionId;
+use judging::End;
 use link::FRAME_LIMIT;
 use session::Ends;
 

@@ -3,6 +3,7 @@
 use crate::asked::Range;
 use crate::buffers::LINE_LIMIT;
 use crate::buffers::Memory;
+use judging::End;
 use link::FRAME_LIMIT;
 use wrapping::CONTENTS_MOST;
 
@@ -19,11 +20,6 @@ pub(crate) const GIVEN: usize = 2 * HALF;
 pub(crate) const HANDED_ON: usize = GIVEN + LINE_LIMIT;
 
 pub(crate) const MEMORY: usize = HANDED_ON + CONTENTS_MOST;
-
-pub(crate) enum End {
-    Box,
-    Office,
-}
 
 pub(crate) fn none_kept() -> Memory {
     [0; MEMORY]

@@ -15,7 +15,7 @@ use crate::asked::Told;
 use crate::buffers::Memory;
 use crate::carried;
 use crate::encoding;
-use crate::frames::End;
+use crate::explain;
 use crate::registers_named;
 use crate::streamed;
 use crate::world::Notes;
@@ -24,6 +24,7 @@ use calls::Call;
 use frame::Ask;
 use frame::OrderNumber;
 use frame::SessionId;
+use judging::End;
 use packet::Access;
 use text::HexByte;
 
@@ -133,13 +134,24 @@ fn with_bytes(name: &[u8], s: &[u8], memory: &mut Memory) -> Asked {
 fn with_bytes_alone(name: &[u8], s: &[u8], memory: &mut Memory) -> Asked {
     match which(name, b"bus decode encode") {
         0 => arguments::with_bytes(Action::Task(Task::Bus(Heard::All)), s, &mut *memory),
-        1 => {
-            let action = Action::Say(Said::Made(Made::Decoded));
-            arguments::with_bytes(action, s, &mut *memory)
-        }
+        1 => decode(s, &mut *memory),
         2 => encoding::encode(s, &mut *memory),
         _ => with_access(name, s, &mut *memory),
     }
+}
+
+// decode box BYTES, decode office BYTES
+fn decode(s: &[u8], memory: &mut Memory) -> Asked {
+    match which(text::word(s), b"box office") {
+        0 => decode_at(End::Box, text::after_word(s), &mut *memory),
+        1 => decode_at(End::Office, text::after_word(s), &mut *memory),
+        _ => asked::wrong(Fault::NotACall),
+    }
+}
+
+fn decode_at(end: End, s: &[u8], memory: &mut Memory) -> Asked {
+    let action = Action::Say(Said::Made(Made::Decoded(end)));
+    arguments::with_bytes(action, s, &mut *memory)
 }
 
 // The calls that say whether to write or to read.
@@ -159,10 +171,11 @@ fn with_access(name: &[u8], s: &[u8], memory: &mut Memory) -> Asked {
 }
 
 fn without_bytes(name: &[u8], s: &[u8]) -> Asked {
-    match which(name, b"room issue-many fresh") {
+    match which(name, b"room issue-many fresh explain") {
         0 => room(s),
         1 => many(s),
         2 => arguments::ended(Action::Task(Task::Fresh), s),
+        3 => explain::asked(s),
         _ => told(name, s),
     }
 }

@@ -8,6 +8,7 @@ mod carried;
 mod describe;
 mod encoding;
 mod ends;
+mod explain;
 mod frames;
 mod held;
 mod lending;

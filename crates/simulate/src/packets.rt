@@ -26,7 +26,7 @@ pub(crate) fn packet(
             lending::told(&mut *out, said, lent, lending::part(&page, len, n))
         }
         Written::Refused(r) => {
-            let said = print::refused(&mut *out, at, r.number());
+            let said = print::refused(&mut *out, at, r);
             lending::told(&mut *out, said, lent, lending::part(&page, 0, n))
         }
     }
@@ -62,7 +62,7 @@ pub(crate) fn reply(
             let n = [r.end as u64];
             print::with(&mut *out, told, end, &n)
         }
-        ReplyRead::Refused(r) => print::refused(&mut *out, at, r.number()),
+        ReplyRead::Refused(r) => print::refused(&mut *out, at, r),
     }
 }
 

@@ -14,6 +14,7 @@ use crate::buffers::Output;
 use crate::describe;
 use crate::encoding;
 use crate::ends;
+use crate::explain;
 use crate::held;
 use crate::packets;
 use crate::print;
@@ -103,6 +104,7 @@ pub(crate) fn say(
             let lent = asked.lent;
             make(&mut *out, at, made, lent, asked::bytes(memory, asked.bytes))
         }
+        Said::Explained(n, offset) => explain::told(&mut *out, at, n, offset),
     }
 }
 
@@ -139,8 +141,8 @@ fn make(out: &mut Output, at: usize, made: Made, lent: Lent, bytes: &[u8]) -> us
             print::end_line(&mut *out, said)
         }
         Made::Encoded => print::named_bytes(&mut *out, at, b"frame", bytes),
-        Made::Decoded => {
-            let said = encoding::decoded(&mut *out, at, bytes);
+        Made::Decoded(end) => {
+            let said = encoding::decoded(&mut *out, at, end, bytes);
             print::end_line(&mut *out, said)
         }
         Made::Wrapped(room) => streams::wrapped(&mut *out, at, room, bytes),

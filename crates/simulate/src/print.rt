@@ -1,6 +1,8 @@
 // What is printed: it is gathered in a lent buffer, from `at` on, and each call answers the place behind what it put there.
 use crate::asked::Fault;
 use crate::buffers::Output;
+use base::FrameFault;
+use base::Refusal;
 use frame::Verdict;
 use libc::STDOUT_FILENO;
 
@@ -122,15 +124,23 @@ pub(crate) fn named_bytes(out: &mut Output, at: usize, word: &[u8], s: &[u8]) ->
     end_line(&mut *out, told)
 }
 
-pub(crate) fn refused(out: &mut Output, at: usize, number: u8) -> usize {
-    let n = [number as u64];
+pub(crate) fn refused(out: &mut Output, at: usize, refusal: Refusal) -> usize {
+    if let Refusal::Frame(fault, offset) = refusal {
+        return faulty(&mut *out, at, fault, offset);
+    }
+    let n = [refusal.number() as u64];
     with(&mut *out, at, b"refused _", &n)
+}
+
+pub(crate) fn faulty(out: &mut Output, at: usize, fault: FrameFault, offset: usize) -> usize {
+    let n = [fault.number() as u64, offset as u64];
+    with(&mut *out, at, b"refused _ at _", &n)
 }
 
 fn verdict(out: &mut Output, at: usize, verdict: Verdict) -> usize {
     match verdict {
         Verdict::Accepted => all(&mut *out, at, b"ok"),
-        Verdict::Refused(r) => refused(&mut *out, at, r.number()),
+        Verdict::Refused(r) => refused(&mut *out, at, r),
     }
 }
 
@@ -162,7 +172,8 @@ fn fault_place(fault: Fault) -> usize {
         Fault::NoSuchFrame => 5,
         Fault::NotAFrame => 6,
         Fault::NoSuchRegister => 7,
-        Fault::TooManyWords => 8,
+        Fault::NotARefusal => 8,
+        Fault::TooManyWords => 9,
     }
 }
 
@@ -171,7 +182,7 @@ pub(crate) fn wrong(out: &mut Output, at: usize, line: u64, fault: Fault) -> usi
     let n = [line];
     let behind = with(&mut *out, at, b"line _: ", &n);
     let row =
-        b"line too long|not a call|not a number|number out of range|not bytes|no such frame|not a frame|no such register|too many words";
+        b"line too long|not a call|not a number|number out of range|not bytes|no such frame|not a frame|no such register|not a refusal|too many words";
     let told = all(&mut *out, behind, nth(row, fault_place(fault)));
     end_line(&mut *out, told)
 }

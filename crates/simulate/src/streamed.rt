@@ -15,9 +15,9 @@ use crate::buffers::LINE_LIMIT;
 use crate::buffers::Memory;
 use crate::carried;
 use crate::carried::FrameRead;
-use crate::frames::End;
 use crate::frames::GIVEN;
 use base::Written;
+use judging::End;
 use stream::WRAPPED_MOST;
 
 // The longest output that `wrap` lends, and the longest piece.

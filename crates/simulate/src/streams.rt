@@ -33,7 +33,7 @@ pub(crate) fn wrapped(out: &mut Output, at: usize, room: usize, frame: &[u8]) ->
             print::named_bytes(&mut *out, at, b"wrapped", field)
         }
         Written::Refused(r) => {
-            let said = print::refused(&mut *out, at, r.number());
+            let said = print::refused(&mut *out, at, r);
             print::end_line(&mut *out, said)
         }
     }
@@ -214,9 +214,10 @@ fn told(
             base::store(&buffer, &mut *memory, HANDED_ON);
             print::named_bytes(&mut *out, took, b" frame", text::part(&buffer, 0, len))
         }
-        Event::Refused(r) => {
-            let n = [r.number() as u64];
-            print::with(&mut *out, took, b" refused _\n", &n)
+        Event::Refused(fault, offset) => {
+            let apart = print::all(&mut *out, took, b" ");
+            let refused = print::faulty(&mut *out, apart, fault, offset);
+            print::end_line(&mut *out, refused)
         }
     }
 }
