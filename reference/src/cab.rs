@@ -1,7 +1,7 @@
 //! The cab box.
 
 use crate::controller::Controller;
-use crate::link::{Frame, LONGEST_FRAME, Order};
+use crate::link::{End, Frame, LONGEST_FRAME, Order};
 use crate::refusal::Refusal;
 
 #[derive(Clone, Copy, Debug, PartialEq, Eq)]
@@ -17,7 +17,7 @@ pub struct Cab {
     open: Option<Open>,
 }
 
-/// A refusal by the box, with the REFUSE it wrote for 4 to 7.
+/// A refusal by the box, with the REFUSE it wrote for all but 1.
 #[derive(Clone, Debug, PartialEq, Eq)]
 pub struct Refused {
     pub refusal: Refusal,
@@ -52,20 +52,22 @@ impl Cab {
                 frame: None,
             });
         }
-        let (session, answer) = match Frame::from_bytes(bytes) {
-            Some(Frame::Open { session }) => (session, self.opening(session)),
-            Some(Frame::Order {
+        let (session, answer) = match Frame::read(bytes, End::Box) {
+            Ok(Frame::Open { session }) => (session, self.opening(session)),
+            Ok(Frame::Order {
                 session,
                 number,
                 order,
             }) => (session, self.order(session, number, &order)),
-            _ => (0, Err(Refusal::NotWellFormed)),
+            Ok(_) => unreachable!("a frame for the office has a fault here"),
+            // Whatever session the bytes may hold.
+            Err(fault) => (0, Err(fault.into())),
         };
         match answer {
             Ok(frame) => Ok(frame.to_bytes()),
             Err(refusal) => Err(Refused {
                 refusal,
-                frame: Some(Frame::Refuse { session, refusal }.to_bytes()),
+                frame: Some(refuse(session, refusal)),
             }),
         }
     }
@@ -108,4 +110,9 @@ impl Cab {
             count: open.taken,
         })
     }
+}
+
+fn refuse(session: u32, refusal: Refusal) -> Vec<u8> {
+    let number = refusal.number();
+    Frame::Refuse { session, number }.to_bytes()
 }

@@ -8,6 +8,7 @@
 pub mod bench;
 pub mod cab;
 pub mod controller;
+pub mod fault;
 pub mod link;
 pub mod office;
 pub mod packet;

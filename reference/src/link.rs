@@ -1,12 +1,38 @@
 //! The adjustment link: orders and frames.
 
 use crate::controller::Controller;
-use crate::refusal::Refusal;
+use crate::fault::{self, Fault};
 use crate::settings::Settings;
 
 /// The longest frame (WELCOME), which is the output box and office ask to be lent.
 pub const LONGEST_FRAME: usize = 37;
 pub const MOST_ORDER_DATA: usize = 16;
+/// The bytes of a field before its contents: tag and length.
+pub const HEAD: usize = 3;
+
+/// Who reads a frame.
+#[derive(Clone, Copy, Debug, PartialEq, Eq)]
+pub enum End {
+    Box,
+    Office,
+}
+
+impl End {
+    pub fn other(self) -> End {
+        match self {
+            End::Box => End::Office,
+            End::Office => End::Box,
+        }
+    }
+
+    /// The first tags of the frames meant for this end.
+    pub fn first_tags(self) -> &'static [u8] {
+        match self {
+            End::Box => &[0x10, 0x12],
+            End::Office => &[0x11, 0x13, 0x14],
+        }
+    }
+}
 
 #[derive(Clone, Debug, PartialEq, Eq)]
 pub enum Order {
@@ -28,11 +54,27 @@ impl Order {
 
 #[derive(Clone, Debug, PartialEq, Eq)]
 pub enum Frame {
-    Open { session: u32 },
-    Welcome { session: u32, settings: Settings },
-    Order { session: u32, number: u16, order: Order },
-    Ack { session: u32, count: u16 },
-    Refuse { session: u32, refusal: Refusal },
+    Open {
+        session: u32,
+    },
+    Welcome {
+        session: u32,
+        settings: Settings,
+    },
+    Order {
+        session: u32,
+        number: u16,
+        order: Order,
+    },
+    Ack {
+        session: u32,
+        count: u16,
+    },
+    /// The refusal's number alone, without its offset.
+    Refuse {
+        session: u32,
+        number: u8,
+    },
 }
 
 impl Frame {
@@ -58,13 +100,22 @@ impl Frame {
             ]
             .concat(),
             Frame::Ack { session, count } => field(0x13, &session_and_count(*session, *count)),
-            Frame::Refuse { session, refusal } => {
-                field(0x14, &[&session.to_le_bytes()[..], &[refusal.number()]].concat())
+            Frame::Refuse { session, number } => {
+                field(0x14, &[&session.to_le_bytes()[..], &[*number]].concat())
             }
         }
     }
 
-    /// The frame these bytes are, if they are a well-formed one.
+    /// The frame these bytes are at this end, or what is wrong with them.
+    pub fn read(bytes: &[u8], end: End) -> Result<Frame, Fault> {
+        match fault::told(bytes, end) {
+            Some(fault) => Err(fault),
+            None => Ok(Frame::from_bytes(bytes).expect("bytes without a fault are a frame")),
+        }
+    }
+
+    /// The frame these bytes are, if they are a well-formed one. This is document 01's list
+    /// of frames; what is wrong with other bytes stands by itself, in `fault`.
     pub fn from_bytes(bytes: &[u8]) -> Option<Frame> {
         Some(match fields(bytes)?.as_slice() {
             [(0x10, session)] => Frame::Open {
@@ -91,19 +142,24 @@ impl Frame {
                 Frame::Ack { session, count }
             }
             [(0x14, contents)] => {
-                let (last, session) = contents.split_last()?;
+                let (&number, session) = contents.split_last()?;
                 let session = u32_of(session)?;
-                let refusal = match last {
-                    4 if session == 0 => Refusal::NotWellFormed,
-                    5 => Refusal::NoneOpen,
-                    6 => Refusal::WrongSession,
-                    7 => Refusal::BeyondNext,
-                    _ => return None,
-                };
-                Frame::Refuse { session, refusal }
+                if !may_carry(session, number) {
+                    return None;
+                }
+                Frame::Refuse { session, number }
             }
             _ => return None,
         })
+    }
+}
+
+/// Whether a REFUSE may name this session and carry this number.
+pub(crate) fn may_carry(session: u32, number: u8) -> bool {
+    match number {
+        5..=7 => true,
+        14..=19 => session == 0,
+        _ => false,
     }
 }
 

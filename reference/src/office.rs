@@ -4,7 +4,8 @@ use std::collections::VecDeque;
 use std::fmt;
 
 use crate::controller::Controller;
-use crate::link::{Frame, LONGEST_FRAME, MOST_ORDER_DATA, Order};
+use crate::fault::Fault;
+use crate::link::{End, Frame, LONGEST_FRAME, MOST_ORDER_DATA, Order};
 use crate::refusal::Refusal;
 use crate::settings::Settings;
 
@@ -125,10 +126,9 @@ impl Office {
         Ok(running.order_frame(number, order.clone()))
     }
 
-    pub fn frame_in(&mut self, bytes: &[u8]) -> Result<(), Refusal> {
-        let frame = Frame::from_bytes(bytes).ok_or(Refusal::NotWellFormed)?;
+    pub fn frame_in(&mut self, bytes: &[u8]) -> Result<(), Fault> {
+        let frame = Frame::read(bytes, End::Office)?;
         match (&mut *self, frame) {
-            (_, Frame::Open { .. } | Frame::Order { .. }) => return Err(Refusal::NotWellFormed),
             (
                 Office::Opening { session },
                 Frame::Welcome {
@@ -145,7 +145,7 @@ impl Office {
                 Office::Opening { .. } | Office::Open(_),
                 Frame::Refuse {
                     session,
-                    refusal: Refusal::NoneOpen | Refusal::WrongSession,
+                    number: 5 | 6,
                 },
             ) => {
                 if let Some(progress) = self.progress().filter(|progress| progress.session == session) {

@@ -2,6 +2,7 @@
 
 mod answer;
 mod describe;
+mod explain;
 mod log;
 mod parse;
 mod receive;
@@ -149,6 +150,7 @@ impl Simulation {
             Call::Stream(whose, bytes) => self.stream(whose, &bytes),
             Call::Pieces(whose, pieces) => self.pieces(whose, &pieces),
             Call::Dropped => Answer::Dropped(self.bench_receiver.dropped()),
+            Call::Explain(refusal) => Answer::Explained(refusal),
             Call::Show => Answer::State([show::cab(&self.cab), show::office(&self.office)]),
             Call::Describe => Answer::State([describe::cab(&self.cab), describe::office(&self.office)]),
         }
@@ -179,7 +181,7 @@ impl Simulation {
     fn frame_to_office(&mut self, frame: &[u8]) -> Answer {
         match self.office.frame_in(frame) {
             Ok(()) => Answer::Ok,
-            Err(refusal) => Answer::Refused(refusal),
+            Err(fault) => Answer::Refused(fault.into()),
         }
     }
 

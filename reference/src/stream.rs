@@ -1,13 +1,18 @@
 //! Frames wrapped in an outer field, for a link that hands over bytes in pieces of any size.
 
-use crate::link::field;
+use crate::fault::{Fault, Wrong};
+use crate::link::{HEAD, field};
 use crate::refusal::Refusal;
 
 pub const TAG: u8 = 0x01;
 /// The longest frame that is wrapped.
 pub const MOST_CONTENTS: usize = 64;
-/// The bytes before a wrapped frame: tag and length.
-pub const HEAD: usize = 3;
+
+/// The offset is counted from the outer field's tag.
+const BAD_LENGTH: Fault = Fault {
+    offset: 0,
+    wrong: Wrong::Length,
+};
 
 pub fn wrap(frame: &[u8], room: usize) -> Result<Vec<u8>, Refusal> {
     if !is_length(frame.len()) {
@@ -27,7 +32,7 @@ fn is_length(length: usize) -> bool {
 #[derive(Clone, Debug, PartialEq, Eq)]
 pub enum Came {
     Frame(Vec<u8>),
-    Refused(Refusal),
+    Refused(Fault),
 }
 
 /// How many bytes a call took, and what came with the last of them.
@@ -144,6 +149,6 @@ impl Receiver {
             0 => Place::Tag,
             left => Place::Skipped { left },
         };
-        Some(Came::Refused(Refusal::NotWellFormed))
+        Some(Came::Refused(BAD_LENGTH))
     }
 }

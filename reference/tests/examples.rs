@@ -6,6 +6,7 @@ mod common;
 use common::hex;
 use reference::cab::{Cab, Refused};
 use reference::controller::Controller;
+use reference::fault::{Fault, Wrong};
 use reference::link::{Frame, Order};
 use reference::office::{Office, Word};
 use reference::packet::{Way, read_reply, write_packet};
@@ -270,28 +271,32 @@ fn slips() {
 
 #[test]
 fn box_refusals() {
-    let refused = |number: u8, frame: &str| {
-        let refusal = [
-            Refusal::NotWellFormed,
-            Refusal::NoneOpen,
-            Refusal::WrongSession,
-            Refusal::BeyondNext,
-        ][usize::from(number) - 4];
+    let refused = |refusal: Refusal, frame: &str| {
         Err(Refused {
             refusal,
             frame: Some(hex(frame)),
         })
     };
+    let fault = |wrong, offset| Refusal::Fault(Fault { offset, wrong });
     let mut cab = Cab::restarted(2);
     let order = |number| hex(&format!("12 06 00 03 00 00 00 0{number} 00 21 01 00 01"));
-    assert_eq!(cab.frame_in(&order(1), 37), refused(5, "14 05 00 03 00 00 00 05"));
+    assert_eq!(
+        cab.frame_in(&order(1), 37),
+        refused(Refusal::NoneOpen, "14 05 00 03 00 00 00 05")
+    );
     assert_eq!(
         cab.frame_in(&hex("10 04 00 02 00 00 00"), 37),
-        refused(6, "14 05 00 02 00 00 00 06")
+        refused(Refusal::WrongSession, "14 05 00 02 00 00 00 06")
     );
     assert!(cab.frame_in(&hex("10 04 00 03 00 00 00"), 64).is_ok());
-    assert_eq!(cab.frame_in(&order(0), 37), refused(4, "14 05 00 00 00 00 00 04"));
-    assert_eq!(cab.frame_in(&order(2), 37), refused(7, "14 05 00 03 00 00 00 07"));
+    assert_eq!(
+        cab.frame_in(&order(0), 37),
+        refused(fault(Wrong::Contents, 0), "14 05 00 00 00 00 00 11")
+    );
+    assert_eq!(
+        cab.frame_in(&order(2), 37),
+        refused(Refusal::BeyondNext, "14 05 00 03 00 00 00 07")
+    );
     assert_eq!(cab.frame_in(&order(1), 37), Ok(hex("13 06 00 03 00 00 00 01 00")));
     assert_eq!(
         cab.frame_in(&hex("10 04 00 03 00 00 00"), 37),
@@ -299,7 +304,7 @@ fn box_refusals() {
     );
     assert_eq!(
         cab.frame_in(&hex("13 06 00 03 00 00 00 01 00"), 37),
-        refused(4, "14 05 00 00 00 00 00 04")
+        refused(fault(Wrong::OtherEnd, 0), "14 05 00 00 00 00 00 13")
     );
     let short = Err(Refused {
         refusal: Refusal::ShortOutput,
@@ -373,7 +378,10 @@ fn took(count: usize, came: Option<Came>) -> Taken {
 }
 
 fn refused() -> Option<Came> {
-    Some(Came::Refused(Refusal::NotWellFormed))
+    Some(Came::Refused(Fault {
+        offset: 0,
+        wrong: Wrong::Length,
+    }))
 }
 
 fn frame(text: &str) -> Option<Came> {

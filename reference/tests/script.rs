@@ -42,7 +42,7 @@ fn script_lines() {
         ("reply write 01", "reply 01 data end 1"),
         ("reply read", "refused 12"),
         ("bus", "bus"),
-        ("box", "refused 4 14 05 00 00 00 00 00 04"),
+        ("box", "refused 14 at 0 14 05 00 00 00 00 00 0E"),
         (&long, "line 17: line too long"),
         ("restart 4294967296", "line 18: number out of range"),
         ("restart 4294967295", "ok"),
@@ -89,15 +89,15 @@ fn wrap_and_the_receiver_on_the_bench() {
         ),
         (
             "stream 01 00 00 01 01 00 EE",
-            "took 3 refused 4 / took 4 frame EE",
+            "took 3 refused 16 at 0 / took 4 frame EE",
         ),
-        ("stream 01 41 00", "took 3 refused 4"),
+        ("stream 01 41 00", "took 3 refused 16 at 0"),
         (&long("stream", 64), "took 64"),
         ("stream 01 01 01 00 11", "took 5 frame 11"),
-        ("stream 01 00 01 02", "took 3 refused 4 / took 1"),
+        ("stream 01 00 01 02", "took 3 refused 16 at 0 / took 1"),
         (&long("stream", 255), "took 255"),
         ("stream 01 01 00 07 33 33", "took 4 frame 07 / took 2"),
-        ("stream 01 41 00 22", "took 3 refused 4 / took 1"),
+        ("stream 01 41 00 22", "took 3 refused 16 at 0 / took 1"),
         ("dropped", "dropped 4"),
         ("stream 0", "line 28: not bytes"),
         ("dropped 1", "line 29: too many words"),
@@ -139,20 +139,20 @@ fn streams_to_both_ends() {
         ),
         (
             "stream-office 55 01 09 00 13 06 00 03 00 00 00 01 00 01 00 00",
-            "took 13 frame 13 06 00 03 00 00 00 01 00: ok / took 3 refused 4",
+            "took 13 frame 13 06 00 03 00 00 00 01 00: ok / took 3 refused 16 at 0",
         ),
         (
             "stream-box 01 01 00 10",
-            "took 4 frame 10: refused 4 14 05 00 00 00 00 00 04",
+            "took 4 frame 10: refused 14 at 0 14 05 00 00 00 00 00 0E",
         ),
         (
             "stream-office 01 07 00 10 04 00 03 00 00 00",
-            "took 10 frame 10 04 00 03 00 00 00: refused 4",
+            "took 10 frame 10 04 00 03 00 00 00: refused 19 at 0",
         ),
         // A length that is refused writes no REFUSE.
-        ("stream-box 01 00 00", "took 3 refused 4"),
+        ("stream-box 01 00 00", "took 3 refused 16 at 0"),
         ("stream-box", "took 0"),
-        ("pieces-office 4 11", "took 11 frame 14 05 00 00 00 00 00 04: ok"),
+        ("pieces-office 4 11", "took 11 frame 14 05 00 00 00 00 00 0E: ok"),
         ("to-office 5", "line 17: no such frame"),
     ] {
         assert_eq!(answer(&mut simulation, line), expected, "{line}");
@@ -176,11 +176,11 @@ fn restart_renews_the_receiver_of_the_box() {
             "pieces-box 1 9",
             "took 9 / took 1 frame 10 04 00 03 00 00 00: refused 6 14 05 00 03 00 00 00 06",
         ),
-        ("stream-box 01 41 00 01", "took 3 refused 4 / took 1"),
+        ("stream-box 01 41 00 01", "took 3 refused 16 at 0 / took 1"),
         ("restart 2", "ok"),
         (
             "stream-box 01 02 00 10 04",
-            "took 5 frame 10 04: refused 4 14 05 00 00 00 00 00 04",
+            "took 5 frame 10 04: refused 14 at 0 14 05 00 00 00 00 00 0E",
         ),
         (
             "stream-office 00 03 00 00 00 01 00",
@@ -420,4 +420,148 @@ fn describe_every_status_bit() {
             assert_eq!(told(status), name.map_or("other bits", |(.., name)| name));
         }
     }
+}
+
+#[test]
+fn faults_of_a_frame_with_their_offsets() {
+    let mut simulation = Simulation::new();
+    for (line, expected) in [
+        ("box 10 04 00 03 00 00", "refused 14 at 0 14 05 00 00 00 00 00 0E"),
+        (
+            "box 12 06 00 03 00 00 00 01 00",
+            "refused 14 at 9 14 05 00 00 00 00 00 0E",
+        ),
+        ("box 22 02 00 E8 03", "refused 15 at 0 14 05 00 00 00 00 00 0F"),
+        ("box 10 00 00", "refused 16 at 0 14 05 00 00 00 00 00 10"),
+        (
+            "box 12 06 00 03 00 00 00 00 00",
+            "refused 17 at 0 14 05 00 00 00 00 00 11",
+        ),
+        (
+            "box 10 04 00 03 00 00 00 10",
+            "refused 18 at 7 14 05 00 00 00 00 00 12",
+        ),
+        (
+            "box 13 06 00 03 00 00 00 01 00",
+            "refused 19 at 0 14 05 00 00 00 00 00 13",
+        ),
+        ("office 11 04 00 03 00 00 00", "refused 14 at 7"),
+        ("office 11 04 00 03 00 00 00 22 02 00 E8 03", "refused 15 at 7"),
+        ("office 11 04 00 03 00 00 00 20 00 00", "refused 16 at 7"),
+        ("office 14 05 00 00 00 00 00 04", "refused 17 at 0"),
+        ("office 14 05 00 00 00 00 00 13", "ok"),
+        ("office 13 06 00 03 00 00 00 01 00 00", "refused 18 at 9"),
+        ("office 10 04 00 03 00 00 00", "refused 19 at 0"),
+        // The offset is the frame's own, wherever it came in the stream.
+        (
+            "stream-office 00 01 0A 00 13 06 00 03 00 00 00 01 00 00 01 00 00",
+            "took 14 frame 13 06 00 03 00 00 00 01 00 00: refused 18 at 9 / took 3 refused 16 at 0",
+        ),
+        // The box's refusals can be carried to the office, which does nothing on them.
+        ("to-office 2", "ok"),
+        ("pieces-office 7 20", "took 11 frame 14 05 00 00 00 00 00 13: ok"),
+        ("room 36", "ok"),
+        ("box", "refused 1"),
+        ("office", "refused 14 at 0"),
+    ] {
+        assert_eq!(answer(&mut simulation, line), expected, "{line}");
+    }
+}
+
+#[test]
+fn explain_every_refusal() {
+    let mut simulation = Simulation::new();
+    for expected in [
+        "1: output too short",
+        "2: too much data, or a frame that cannot be wrapped",
+        "3: ID over 127",
+        "5: no session open",
+        "6: not the open session, nor one to open",
+        "7: an order before this one is missing",
+        "8: 8 orders unanswered",
+        "9: no order number left",
+        "10: office not open",
+        "11: reserved response, or wrong sum",
+        "12: reply not complete",
+        "13: nothing to send again",
+    ] {
+        let number = expected.split(':').next().unwrap();
+        assert_eq!(answer(&mut simulation, &format!("explain {number}")), expected);
+    }
+    for (number, words) in [
+        (14, "ends inside the field at @, or before it"),
+        (15, "unexpected tag of the field at @"),
+        (16, "wrong length of the field at @"),
+        (17, "contents not allowed in the field at @"),
+        (18, "bytes after the end, from @ on"),
+        (19, "meant for the other end, by the field at @"),
+    ] {
+        for offset in ["0", "7", "14", "4294967295"] {
+            let line = format!("explain {number} at {offset}");
+            let expected = format!("{number}: {}", words.replace('@', offset));
+            assert_eq!(answer(&mut simulation, &line), expected);
+        }
+    }
+    assert_eq!(
+        answer(&mut simulation, " explain  014  at  007 # 14"),
+        "14: ends inside the field at 7, or before it"
+    );
+}
+
+#[test]
+fn explain_what_is_no_refusal() {
+    let mut simulation = Simulation::new();
+    for (place, arguments) in [
+        "",
+        "0",
+        "4",
+        "4 at 0",
+        "20",
+        "20 at 0",
+        "255",
+        "256",
+        "257",
+        "262",
+        "270 at 0",
+        "4294967302",
+        "18446744073709551622",
+        "99999999999999999999999",
+        "-6",
+        "+6",
+        "06x",
+        "0x6",
+        "x",
+        "six",
+        "at",
+        "at 7",
+        "6 at 7",
+        "6 at",
+        "6 7",
+        "6 x",
+        "14",
+        "14 7",
+        "14 at",
+        "14 at x",
+        "14 at -1",
+        "14 at 7 7",
+        "14 at 7 at 7",
+        "14 At 7",
+        "14 on 7",
+        "14 at 4294967296",
+        "14 at 18446744073709551623",
+        "14 at 99999999999999999999999",
+        "refused 6",
+        "14 # at 7",
+    ]
+    .into_iter()
+    .enumerate()
+    {
+        let expected = format!("line {}: not a refusal", place + 1);
+        assert_eq!(answer(&mut simulation, &format!("explain {arguments}")), expected);
+    }
+    // The length of the line and the first word go before.
+    let long = format!("explain{}4", " ".repeat(4089));
+    assert_eq!(answer(&mut simulation, &long), "line 41: line too long");
+    assert_eq!(answer(&mut simulation, "explains 6"), "line 42: not a call");
+    assert_eq!(answer(&mut simulation, "Explain 6"), "line 43: not a call");
 }

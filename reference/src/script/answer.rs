@@ -2,6 +2,7 @@
 
 use std::fmt;
 
+use super::explain;
 use super::parse::ParseError;
 use crate::packet::Reply;
 use crate::refusal::Refusal;
@@ -20,6 +21,7 @@ pub enum Answer {
     /// Every call of a receiver.
     Stream(Vec<Heard>),
     Dropped(u32),
+    Explained(Refusal),
     /// What both ends hold: the box's line and the office's.
     State([String; 2]),
     /// The line's number, and what is wrong with it.
@@ -47,10 +49,8 @@ impl fmt::Display for Answer {
         match self {
             Answer::Ok => write!(f, "ok"),
             Answer::Frame(frame) => write!(f, "ok{}", Hex(frame)),
-            Answer::Refused(refusal) => write!(f, "refused {}", refusal.number()),
-            Answer::RefusedFrame(refusal, frame) => {
-                write!(f, "refused {}{}", refusal.number(), Hex(frame))
-            }
+            Answer::Refused(refusal) => write!(f, "refused {refusal}"),
+            Answer::RefusedFrame(refusal, frame) => write!(f, "refused {refusal}{}", Hex(frame)),
             Answer::Bus(bytes) => write!(f, "bus{}", Hex(bytes)),
             Answer::Packet(packet) => write!(f, "packet{}", Hex(packet)),
             Answer::Reply(Reply { response, data, end }) => {
@@ -59,6 +59,7 @@ impl fmt::Display for Answer {
             Answer::Wrapped(bytes) => write!(f, "wrapped{}", Hex(bytes)),
             Answer::Stream(calls) => joined(f, calls),
             Answer::Dropped(count) => write!(f, "dropped {count}"),
+            Answer::Explained(refusal) => write!(f, "{}: {}", refusal.number(), explain::words(*refusal)),
             Answer::State([cab, office]) => write!(f, "{cab}\n{office}"),
             Answer::Invalid(line, error) => write!(f, "line {line}: {error}"),
         }
@@ -80,7 +81,7 @@ impl fmt::Display for Heard {
         write!(f, "took {}", self.taken.count)?;
         match &self.taken.came {
             Some(Came::Frame(frame)) => write!(f, " frame{}", Hex(frame))?,
-            Some(Came::Refused(refusal)) => write!(f, " refused {}", refusal.number())?,
+            Some(Came::Refused(fault)) => write!(f, " refused {}", Refusal::Fault(*fault))?,
             None => {}
         }
         match &self.answer {

@@ -6,6 +6,7 @@ use std::fmt;
 use super::log::Log;
 use crate::link::Order;
 use crate::packet::Way;
+use crate::refusal::Refusal;
 
 const LONGEST_LINE: usize = 4096;
 const MOST_ROOM: u64 = 512;
@@ -28,6 +29,7 @@ pub enum Call {
     Stream(Receives, Vec<u8>),
     Pieces(Receives, Pieces),
     Dropped,
+    Explain(Refusal),
     Show,
     Describe,
 }
@@ -54,6 +56,7 @@ pub enum ParseError {
     OutOfRange,
     NotBytes,
     NoSuchFrame,
+    NotARefusal,
     TooManyWords,
 }
 
@@ -66,6 +69,7 @@ impl fmt::Display for ParseError {
             ParseError::OutOfRange => "number out of range",
             ParseError::NotBytes => "not bytes",
             ParseError::NoSuchFrame => "no such frame",
+            ParseError::NotARefusal => "not a refusal",
             ParseError::TooManyWords => "too many words",
         })
     }
@@ -117,6 +121,7 @@ pub fn parse(line: &[u8], from_cab: &Log, from_office: &Log) -> Result<Option<Ca
         b"pieces-box" => Call::Pieces(Receives::Box, words.pieces(from_office)?),
         b"pieces-office" => Call::Pieces(Receives::Office, words.pieces(from_cab)?),
         b"dropped" => Call::Dropped,
+        b"explain" => Call::Explain(words.refusal().ok_or(ParseError::NotARefusal)?),
         b"show" => Call::Show,
         b"describe" => Call::Describe,
         _ => return Err(ParseError::NotACall),
@@ -184,6 +189,17 @@ impl<'a> Words<'a> {
                 length: length as usize,
             }),
         }
+    }
+
+    /// A refusal as an answer tells it; it takes all words that are left, whatever they are.
+    fn refusal(&mut self) -> Option<Refusal> {
+        let number = u8::try_from(self.any_number().ok()?).ok()?;
+        let offset = match self.next() {
+            None => None,
+            Some(b"at") => Some(self.number_u32().ok()? as usize),
+            Some(_) => return None,
+        };
+        Refusal::told(number, offset).filter(|_| self.is_empty())
     }
 
     fn byte(&mut self) -> Result<u8, ParseError> {

@@ -3,7 +3,8 @@
 use super::Simulation;
 use super::answer::{Answer, Heard};
 use super::parse::{Pieces, Receives};
-use crate::stream::{Came, HEAD, MOST_CONTENTS, Receiver, wrap};
+use crate::link::HEAD;
+use crate::stream::{Came, MOST_CONTENTS, Receiver, wrap};
 
 impl Simulation {
     /// Gives bytes to the receiver, call after call until all are taken.

@@ -28,7 +28,8 @@ fn sparse_status(rng: &mut Rng) -> [u8; 4] {
     status
 }
 
-fn settings(rng: &mut Rng) -> Vec<u8> {
+/// A settings block; this percentage of them has a value that no controller holds.
+pub fn settings(rng: &mut Rng, bad: usize) -> Vec<u8> {
     let mut block = rng.bytes(27);
     block[2] = u8::from(!rng.chance(15));
     block[3] = rng.below(2) as u8;
@@ -44,7 +45,7 @@ fn settings(rng: &mut Rng) -> Vec<u8> {
     if rng.chance(70) {
         block[23..].copy_from_slice(&sparse_status(rng));
     }
-    if rng.chance(30) {
+    if rng.chance(bad) {
         match rng.below(8) {
             0 => block[2] = 2,
             1 => block[3] = 2,
@@ -76,7 +77,7 @@ pub fn frame(rng: &mut Rng, aim: &Aim) -> Vec<u8> {
     let counted = [&session[..], &number.to_le_bytes()].concat();
     match rng.weighted(&[10, 20, 35, 20, 15]) {
         0 => field(0x10, &session),
-        1 => [field(0x11, &session), field(0x20, &settings(rng))].concat(),
+        1 => [field(0x11, &session), field(0x20, &settings(rng, 30))].concat(),
         2 => {
             let step = (rng.number() as u16).to_le_bytes();
             let order = match rng.below(5) {
@@ -91,8 +92,8 @@ pub fn frame(rng: &mut Rng, aim: &Aim) -> Vec<u8> {
         }
         3 => field(0x13, &counted),
         _ => {
-            let refusal = rng.pick(&[3, 4, 5, 5, 6, 6, 7, 8]);
-            let session = if refusal == 4 && rng.chance(70) {
+            let refusal = rng.pick(&[4, 5, 5, 6, 6, 7, 8, 14, 16, 19]);
+            let session = if refusal >= 14 && rng.chance(70) {
                 [0; 4]
             } else {
                 session

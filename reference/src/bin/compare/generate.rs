@@ -1,6 +1,7 @@
 //! Random scripts, each made against a running reference so that its frames are met.
 
 mod bus;
+mod faulty;
 mod hostile;
 mod link;
 mod longest;
@@ -9,6 +10,7 @@ mod stream;
 
 use std::collections::BTreeSet;
 
+use reference::link::End;
 use reference::rng::Rng;
 use reference::script::{Answer, Simulation};
 
@@ -42,18 +44,10 @@ enum Pace {
     Deaf,
 }
 
-#[derive(Clone, Copy)]
-enum End {
-    Box,
-    Office,
-}
-
-impl End {
-    fn word(self) -> &'static str {
-        match self {
-            End::Box => "box",
-            End::Office => "office",
-        }
+fn word(end: End) -> &'static str {
+    match end {
+        End::Box => "box",
+        End::Office => "office",
     }
 }
 
@@ -127,10 +121,10 @@ impl Generator {
 
     fn step(&mut self) {
         let weights = match self.kind {
-            Kind::Allowed => [77, 0, 13, 3, 2, 3, 2, 0],
-            Kind::Hostile => [50, 16, 13, 3, 2, 4, 3, 9],
-            Kind::Bench => [0, 0, 4, 48, 18, 4, 26, 0],
-            Kind::Mixed => [28, 7, 12, 12, 11, 15, 9, 6],
+            Kind::Allowed => [76, 0, 13, 3, 2, 3, 2, 0, 0, 1],
+            Kind::Hostile => [40, 9, 10, 3, 2, 3, 2, 7, 22, 2],
+            Kind::Bench => [0, 0, 4, 46, 17, 4, 26, 0, 0, 3],
+            Kind::Mixed => [24, 6, 10, 11, 10, 14, 8, 5, 10, 2],
         };
         match self.rng.weighted(&weights) {
             0 => self.link(),
@@ -143,6 +137,11 @@ impl Generator {
             4 => self.tools(),
             6 => self.stream(),
             7 => self.hostile_stream(),
+            8 => self.faulty(),
+            9 => {
+                let line = lines::explain(&mut self.rng);
+                self.emit(line);
+            }
             _ => {
                 let line = lines::odd(&mut self.rng);
                 self.emit(line);

@@ -2,6 +2,9 @@
 
 use reference::rng::Rng;
 
+/// The longest line that is read.
+const LONGEST: usize = 4096;
+
 const ODD: &[&str] = &[
     "",
     "    ",
@@ -228,6 +231,41 @@ const ODD: &[&str] = &[
     "pieces-office 18446744073709551617 0",
     "pieces 1 3",
     "pieces-bench 1 3",
+    "explain",
+    "explain 4",
+    "explain 4 at 0",
+    "explain 0",
+    "explain 20 at 0",
+    "explain 6 at 7",
+    "explain 6 7",
+    "explain 6 x",
+    "explain 6 at",
+    "explain 06",
+    "explain 6x",
+    "explain -6",
+    "explain 262",
+    "explain 270 at 7",
+    "explain 4294967302",
+    "explain 18446744073709551622",
+    "explain 14",
+    "explain 14 7",
+    "explain 14 at",
+    "explain 14 at x",
+    "explain 14 at 7 7",
+    "explain 14 at 7 at 7",
+    "explain 14 At 7",
+    "explain 14 on 7",
+    "explain 014 at 007",
+    "explain 14 at 4294967296",
+    "explain 14 at 18446744073709551623",
+    "explain 14 # at 7",
+    "explain 14 at 7 # 7",
+    "explain refused 6",
+    "explain at 7",
+    "explain x",
+    "Explain 6",
+    "explains 6",
+    "explain\t6",
     "measure",
     "ok",
     "box-to 1",
@@ -262,18 +300,34 @@ pub fn odd(rng: &mut Rng) -> Vec<u8> {
             line.extend(b"show");
             line
         }
-        11 => {
-            let mut line = b"bus".to_vec();
-            line.extend(b" 00".repeat(rng.pick(&[1364, 1365])));
-            line
-        }
         // The longest that is read, and one byte more.
-        12 => {
-            let mut line = b"stream".to_vec();
-            line.extend(b" 00".repeat(rng.pick(&[1363, 1364])));
-            line
+        11..=12 => {
+            let word = rng.pick(&["bus", "stream"]);
+            let count = most_bytes(word) + rng.below(2);
+            [word.as_bytes(), &b" 00".repeat(count)].concat()
         }
         _ => rng.pick(ODD).as_bytes().to_vec(),
+    }
+}
+
+/// A refusal to be told in words, or nearly one.
+pub fn explain(rng: &mut Rng) -> String {
+    let number = match rng.below(8) {
+        0 => rng.below(300),
+        1 => rng.pick(&[0, 4, 4, 20]),
+        _ => rng.between(1, 19),
+    };
+    let offset = match rng.below(6) {
+        0 => rng.number() as u32 as u64,
+        1 => rng.pick(&[65535, 65536, 4_294_967_294, 4_294_967_295]),
+        2 => rng.pick(&[4_294_967_296, 4_294_967_303, u64::MAX]),
+        _ => rng.below(40) as u64,
+    };
+    // Mostly as an answer tells it.
+    if (number >= 14) != rng.chance(15) {
+        format!("explain {number} at {offset}")
+    } else {
+        format!("explain {number}")
     }
 }
 
@@ -281,6 +335,11 @@ fn padded(start: &[u8], length: usize, filler: u8) -> Vec<u8> {
     let mut line = start.to_vec();
     line.resize(length, filler);
     line
+}
+
+/// As many bytes as a line can hold behind its first word.
+pub fn most_bytes(first: &str) -> usize {
+    (LONGEST - first.len()) / 3
 }
 
 pub fn hex(rng: &mut Rng, first: &str, bytes: &[u8]) -> Vec<u8> {

@@ -1,6 +1,8 @@
 //! Frames that no end wrote.
 
-use super::{End, Generator};
+use reference::link::End;
+
+use super::{Generator, word};
 use crate::frames::{self, Aim};
 use crate::lines;
 
@@ -8,7 +10,12 @@ impl Generator {
     pub(super) fn hostile(&mut self) {
         let bytes = self.hostile_frame();
         let end = self.end_for(&bytes);
-        let line = lines::hex(&mut self.rng, end.word(), &bytes);
+        self.emit_frame(end, &bytes);
+    }
+
+    /// The frame bare, in one line.
+    pub(super) fn emit_frame(&mut self, end: End, frame: &[u8]) {
+        let line = lines::hex(&mut self.rng, word(end), frame);
         self.emit(line);
     }
 
@@ -19,7 +26,7 @@ impl Generator {
         if to_box { End::Box } else { End::Office }
     }
 
-    fn aim(&self) -> Aim {
+    pub(super) fn aim(&self) -> Aim {
         let (office, highest, next) = self.sessions();
         let open = self.simulation.cab().open();
         let now = self.simulation.office().progress();

@@ -1,11 +1,12 @@
 //! Calls at both ends, over a link that loses, repeats and reorders frames.
 
+use reference::link::End;
 use reference::office::Office;
 use reference::rng::Rng;
 use reference::script::{Answer, Log};
 use reference::traffic;
 
-use super::{End, Generator, Kind, Pace};
+use super::{Generator, Kind, Pace};
 use crate::lines;
 
 impl Generator {

@@ -1,9 +1,10 @@
 //! Written frames carried to the other end: bare, in pieces, or cut over two lines.
 
+use reference::link::End;
 use reference::script::Log;
 use reference::stream::{Receiver, wrap};
 
-use super::{End, Generator, Kind};
+use super::{Generator, Kind, word};
 use crate::lines;
 
 impl Generator {
@@ -17,12 +18,12 @@ impl Generator {
 
     pub(super) fn carry_whole(&mut self, end: End, index: u64) {
         if self.rng.chance(85) {
-            self.emit(format!("to-{} {index}", end.word()));
+            self.emit(format!("to-{} {index}", word(end)));
             return;
         }
         self.give_rest(end, &[]);
         let length = self.piece_length(end, index);
-        self.emit(format!("pieces-{} {index} {length}", end.word()));
+        self.emit(format!("pieces-{} {index} {length}", word(end)));
     }
 
     fn piece_length(&mut self, end: End, index: u64) -> usize {
@@ -68,7 +69,7 @@ impl Generator {
             more.to_vec()
         };
         if !bytes.is_empty() || self.rng.chance(2) {
-            let line = lines::hex(&mut self.rng, &format!("stream-{}", end.word()), &bytes);
+            let line = lines::hex(&mut self.rng, &format!("stream-{}", word(end)), &bytes);
             self.emit(line);
         }
     }

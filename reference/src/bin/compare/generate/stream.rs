@@ -1,13 +1,12 @@
 //! The wrapping call, the bench's receiver, and streams to the ends that no end wrote so.
 
+use reference::link::End;
 use reference::rng::Rng;
 use reference::stream::Receiver;
 
-use super::{End, Generator, Kind};
+use super::{Generator, Kind, word};
 use crate::lines;
 
-/// About as many bytes as a line of 4096 can hold.
-const MOST_IN_LINE: usize = 1361;
 /// Skips longer than this take many lines, and are rare.
 const FAR: usize = 600;
 /// More bytes than the longest length, and than a count of 16 bits.
@@ -71,7 +70,7 @@ impl Generator {
 
     /// As many lines as are needed.
     fn emit_bytes(&mut self, word: &str, bytes: &[u8]) {
-        let (line, rest) = bytes.split_at(bytes.len().min(MOST_IN_LINE));
+        let (line, rest) = bytes.split_at(bytes.len().min(lines::most_bytes(word)));
         let line = lines::hex(&mut self.rng, word, line);
         self.emit(line);
         if !rest.is_empty() {
@@ -135,7 +134,7 @@ impl Generator {
                 self.hostile_frame()
             };
         }
-        let word = format!("stream-{}", end.word());
+        let word = format!("stream-{}", word(end));
         if !self.rng.chance(15) {
             return self.emit_cut(&word, bytes);
         }
@@ -145,6 +144,15 @@ impl Generator {
         if !ends_far(self.receiver_of(end), &rest) {
             self.emit_bytes(&word, &rest);
         }
+    }
+
+    /// Frames, each wrapped, to an end's receiver; one that is in a skip is led out of it before.
+    pub(super) fn wrapped_frames(&mut self, end: End, frames: Vec<Vec<u8>>) {
+        let skipping = self.receiver_of(end).skipping();
+        let skipped = filler(&mut self.rng, skipping);
+        let wrapped = frames.iter().flat_map(|frame| outer(frame.len(), frame));
+        let bytes: Vec<u8> = skipped.into_iter().chain(wrapped).collect();
+        self.emit_cut(&format!("stream-{}", word(end)), bytes);
     }
 
     /// One of the last frames that were written for this end.

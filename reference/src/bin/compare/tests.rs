@@ -1,0 +1,614 @@
+//! What the random scripts meet, and that they are shortened well.
+
+use std::collections::{BTreeMap, BTreeSet};
+
+use reference::fault::{Fault, Wrong};
+use reference::link::{End, Frame};
+use reference::refusal::Refusal;
+use reference::script::{Answer, Heard, ParseError, Simulation};
+use reference::stream::Came;
+
+use super::*;
+
+/// First word of a line, and the refusal it got.
+fn refusals(scripts: impl Iterator<Item = Script>) -> BTreeSet<(String, u8)> {
+    let mut seen = BTreeSet::new();
+    for script in scripts {
+        let mut simulation = Simulation::new();
+        for line in &script.lines {
+            let answer = simulation.line(line);
+            if let Some(Answer::Refused(refusal) | Answer::RefusedFrame(refusal, _)) = answer {
+                let first = line.split(|byte| *byte == b' ').next().unwrap_or_default();
+                seen.insert((first.escape_ascii().to_string(), refusal.number()));
+            }
+        }
+    }
+    seen
+}
+
+#[test]
+fn every_refusal_is_met() {
+    let random = (1..40).map(|number| generate::script(Rng::new(SEED, number), 3000));
+    let longest = std::iter::once_with(|| generate::longest_session(Rng::new(SEED, 0)));
+    let seen = refusals(random.chain(longest));
+    for (first, numbers) in [
+        ("open", &[1, 6][..]),
+        ("reopen", &[1, 13]),
+        ("raise", &[1, 8, 9, 10]),
+        ("lower", &[1, 8, 10]),
+        ("command", &[1, 2, 8, 9, 10]),
+        ("resend", &[1, 10, 13]),
+        ("box", &[1, 5, 6, 7, 14, 15, 16, 17, 18, 19]),
+        ("to-box", &[1, 5, 6, 7]),
+        ("office", &[14, 15, 16, 17, 18, 19]),
+        ("packet", &[2, 3]),
+        ("reply", &[11, 12]),
+        ("wrap", &[1, 2]),
+    ] {
+        for number in numbers {
+            assert!(seen.contains(&(first.to_string(), *number)), "{first} {number}");
+        }
+    }
+}
+
+/// What a line brought to the ends: each frame, and the answer to it.
+fn frames_in(line: &[u8], answer: Answer) -> Vec<(End, Vec<u8>, Answer)> {
+    let (first, rest) = line.split_at(line.iter().position(|byte| *byte == b' ').unwrap_or(line.len()));
+    let end = if first.ends_with(b"box") {
+        End::Box
+    } else {
+        End::Office
+    };
+    match (first, answer) {
+        (b"box" | b"office", answer) => {
+            let words = String::from_utf8_lossy(rest).into_owned();
+            let bytes = words.split_whitespace().map(|word| u8::from_str_radix(word, 16));
+            let bytes: Result<Vec<u8>, _> = bytes.collect();
+            bytes
+                .into_iter()
+                .map(|bytes| (end, bytes, answer.clone()))
+                .collect()
+        }
+        (b"stream-box" | b"stream-office", Answer::Stream(calls)) => {
+            let frames = calls
+                .into_iter()
+                .filter_map(|heard| match (heard.taken.came, heard.answer) {
+                    (Some(Came::Frame(frame)), Some(answer)) => Some((end, frame, answer)),
+                    _ => None,
+                });
+            frames.collect()
+        }
+        _ => Vec::new(),
+    }
+}
+
+/// All that a run of the usual length brings to the ends.
+fn all_frames_in() -> Vec<(End, Vec<u8>, Answer)> {
+    let mut all = Vec::new();
+    for (_, script) in scripts(CALLS, SEED) {
+        let mut simulation = Simulation::new();
+        for line in script.lines {
+            if let Some(answer) = simulation.line(&line) {
+                all.extend(frames_in(&line, answer));
+            }
+        }
+    }
+    all
+}
+
+fn fault_of(answer: &Answer) -> Option<Fault> {
+    match answer {
+        Answer::Refused(Refusal::Fault(fault)) | Answer::RefusedFrame(Refusal::Fault(fault), _) => {
+            Some(*fault)
+        }
+        _ => None,
+    }
+}
+
+#[test]
+fn every_fault_is_met_at_every_offset() {
+    let mut counts: BTreeMap<(bool, u8, usize), usize> = BTreeMap::new();
+    for (end, _, answer) in all_frames_in() {
+        if let Some(fault) = fault_of(&answer) {
+            let key = (end == End::Box, fault.wrong.number(), fault.offset);
+            *counts.entry(key).or_default() += 1;
+        }
+    }
+    println!("at the box, number, offset: {counts:?}");
+    let mut expected = BTreeSet::new();
+    for (at_box, number, offsets) in [
+        (true, 14, &[0, 9][..]),
+        (true, 15, &[0, 9]),
+        (true, 16, &[0, 9]),
+        (true, 17, &[0]),
+        (true, 18, &[7, 14]),
+        (true, 19, &[0]),
+        (false, 14, &[0, 7]),
+        (false, 15, &[0, 7]),
+        (false, 16, &[0, 7]),
+        (false, 17, &[0, 7]),
+        (false, 18, &[8, 9, 37]),
+        (false, 19, &[0]),
+    ] {
+        for offset in offsets {
+            let key = (at_box, number, *offset);
+            let count = counts.get(&key).copied().unwrap_or(0);
+            assert!(count > 1000, "{key:?} {count}");
+            expected.insert(key);
+        }
+    }
+    // An ORDER may end at many offsets.
+    for offset in 13..=29 {
+        let key = (true, 18, offset);
+        let count = counts.get(&key).copied().unwrap_or(0);
+        assert!(count > 100, "{key:?} {count}");
+        expected.insert(key);
+    }
+    assert_eq!(counts.keys().copied().collect::<BTreeSet<_>>(), expected);
+}
+
+/// The lengths that fields name, by whether at the box and by the fault that is told of the field.
+fn lengths_told() -> BTreeMap<(bool, Fault), Vec<usize>> {
+    let mut lengths: BTreeMap<_, Vec<usize>> = BTreeMap::new();
+    for (end, frame, answer) in all_frames_in() {
+        let Some(fault) = fault_of(&answer) else {
+            continue;
+        };
+        if let [_, low, high, ..] = frame[fault.offset..] {
+            let length = u16::from_le_bytes([low, high]);
+            let key = (end == End::Box, fault);
+            lengths.entry(key).or_default().push(length.into());
+        }
+    }
+    lengths
+}
+
+#[test]
+fn long_fields_are_met_everywhere() {
+    let told = lengths_told();
+    for (at_box, offset) in [(true, 0), (true, 9), (false, 0), (false, 7)] {
+        for (wrong, lengths) in [
+            (Wrong::Length, 300..=1023),
+            (Wrong::Length, 1024..=1361),
+            (Wrong::Cut, 65524..=65524),
+            (Wrong::Cut, 65526..=65526),
+            (Wrong::Cut, 65533..=65533),
+            (Wrong::Cut, 65535..=65535),
+        ] {
+            let key = (at_box, Fault { offset, wrong });
+            let count = told[&key].iter().filter(|told| lengths.contains(*told)).count();
+            assert!(count > 3, "{key:?} {lengths:?} {count}");
+        }
+    }
+}
+
+#[test]
+fn frames_that_fill_a_line_are_met() {
+    let mut counts: BTreeMap<(bool, usize, bool), usize> = BTreeMap::new();
+    for (end, frame, answer) in all_frames_in() {
+        let too_long = matches!(answer, Answer::Invalid(_, ParseError::TooLong));
+        let key = (end == End::Box, frame.len(), too_long);
+        *counts.entry(key).or_default() += 1;
+    }
+    // The longest that is read, and one byte more.
+    for key in [
+        (true, 1364, false),
+        (true, 1365, true),
+        (false, 1363, false),
+        (false, 1364, true),
+    ] {
+        let count = counts.get(&key).copied().unwrap_or(0);
+        assert!(count > 5, "{key:?} {count}");
+    }
+}
+
+#[test]
+fn good_second_fields_of_the_other_frame_are_met() {
+    let mut counts: BTreeMap<(u8, u8), usize> = BTreeMap::new();
+    for (_, frame, answer) in all_frames_in() {
+        let Some(fault) = fault_of(&answer).filter(|fault| fault.wrong == Wrong::Tag) else {
+            continue;
+        };
+        let other_first: &[u8] = match fault.offset {
+            7 => &[0x12, 6, 0, 0, 0, 0, 0, 1, 0],
+            9 => &[0x11, 4, 0, 0, 0, 0, 0],
+            _ => continue,
+        };
+        let second = &frame[fault.offset..];
+        if Frame::from_bytes(&[other_first, second].concat()).is_some() {
+            *counts.entry((frame[0], second[0])).or_default() += 1;
+        }
+    }
+    for tags in [(0x12, 0x20), (0x11, 0x21), (0x11, 0x22), (0x11, 0x23)] {
+        let count = counts.get(&tags).copied().unwrap_or(0);
+        assert!(count > 10, "{tags:?} {count}");
+    }
+}
+
+#[test]
+fn every_bad_content_is_met() {
+    let mut refuses = BTreeSet::new();
+    let mut settings = BTreeSet::new();
+    let mut number_0 = BTreeSet::new();
+    for (end, frame, answer) in all_frames_in() {
+        let at_box = end == End::Box;
+        match &frame[..] {
+            [0x14, 5, 0, session @ .., number] if session.len() == 4 => {
+                refuses.insert((at_box, session != [0; 4], *number));
+            }
+            [0x12, 6, 0, _, _, _, _, 0, 0, ..] => {
+                number_0.extend(fault_of(&answer).map(|fault| (at_box, fault.offset)));
+            }
+            [0x11, 4, 0, .., _] if frame.len() == 37 && !at_box => {
+                // The one byte that is at fault.
+                let good = |place: &usize| {
+                    let mut frame = frame.clone();
+                    frame[10 + place] = 1;
+                    Frame::from_bytes(&frame).is_some()
+                };
+                if Frame::from_bytes(&frame).is_none() {
+                    settings.extend((0..27).find(good).map(|place| (place, frame[10 + place])));
+                }
+            }
+            _ => {}
+        }
+    }
+    assert_eq!(refuses.len(), 4 * 256);
+    assert_eq!(number_0, BTreeSet::from([(false, 0), (true, 0)]));
+    for bad in [
+        (2, 2),
+        (3, 2),
+        (4, 2),
+        (5, 3),
+        (8, 101),
+        (11, 2),
+        (14, 2),
+        (11, 255),
+        (8, 255),
+    ] {
+        assert!(settings.contains(&bad), "{bad:?}");
+    }
+}
+
+#[test]
+fn every_refusal_is_explained() {
+    let mut explained = BTreeSet::new();
+    let mut refused = BTreeSet::new();
+    for number in 1..60 {
+        let mut simulation = Simulation::new();
+        for line in generate::script(Rng::new(SEED, number), 3000).lines {
+            match simulation.line(&line) {
+                Some(Answer::Explained(refusal)) => {
+                    explained.insert(refusal.number());
+                }
+                Some(Answer::Invalid(_, ParseError::NotARefusal)) => {
+                    refused.insert(String::from_utf8_lossy(&line).into_owned());
+                }
+                _ => {}
+            }
+        }
+    }
+    let all: BTreeSet<u8> = (1..=19).filter(|number| *number != 4).collect();
+    assert_eq!(explained, all);
+    for line in [
+        "explain",
+        "explain 0",
+        "explain 4",
+        "explain 20",
+        "explain 14",
+        "explain 4 at 0",
+    ] {
+        assert!(refused.contains(line), "{line}");
+    }
+    assert!(refused.len() > 100);
+}
+
+#[test]
+fn every_form_of_a_description_is_met() {
+    let mut lines: BTreeMap<Vec<u8>, usize> = BTreeMap::new();
+    let mut described = BTreeSet::new();
+    let mut statuses = BTreeSet::new();
+    for number in 1..120 {
+        let mut simulation = Simulation::new();
+        for line in generate::script(Rng::new(SEED, number), 3000).lines {
+            if let (b"describe", Some(Answer::State(ends))) = (&line[..], simulation.line(&line)) {
+                for words in ends {
+                    if let Some((_, status)) = words.split_once(", status ") {
+                        statuses.insert(status.to_string());
+                    }
+                    // Numbers aside, and what is told of the settings.
+                    let form = words.split(": ").next().unwrap_or_default();
+                    let form = form.replace(" 1 order ", " one order ");
+                    described.insert(form.replace(|letter: char| letter.is_ascii_digit(), ""));
+                }
+            }
+            *lines.entry(line).or_default() += 1;
+        }
+    }
+    let count = |line: &[u8]| lines.get(line).copied().unwrap_or(0);
+    let (shows, describes) = (count(b"show"), count(b"describe"));
+    assert!(
+        describes > shows / 5 * 4 && shows > describes / 5 * 4,
+        "{shows} {describes}"
+    );
+    let forms: Vec<&str> = described.iter().map(String::as_str).collect();
+    assert_eq!(
+        forms,
+        [
+            "box session ,  orders taken",
+            "box session , one order taken",
+            "box with no session open, highest ",
+            "office never opened",
+            "office session , opening",
+            "office session , over,  of  orders confirmed",
+            "office session , settled,  of  orders confirmed",
+            "office session , waiting,  of  orders confirmed",
+        ]
+    );
+    for alone in [
+        "none",
+        "incomplete",
+        "not available",
+        "invalid command",
+        "out of range",
+        "escape seen",
+        "length",
+        "bytes ignored",
+        "checksum",
+        "other bits",
+    ] {
+        assert!(statuses.contains(alone), "{alone}");
+    }
+}
+
+#[test]
+fn rooms_up_to_512_and_beyond_are_met() {
+    let mut rooms = BTreeSet::new();
+    let mut refused = BTreeSet::new();
+    for number in 1..120 {
+        let mut simulation = Simulation::new();
+        for line in generate::script(Rng::new(SEED, number), 3000).lines {
+            let answer = simulation.line(&line);
+            if let Some(Answer::Invalid(_, ParseError::OutOfRange)) = answer {
+                refused.insert(line);
+            }
+            rooms.insert(simulation.room());
+        }
+    }
+    for room in [0, 36, 37, 64, 65, 256, 511, 512] {
+        assert!(rooms.contains(&room), "{room}");
+    }
+    assert_eq!(rooms.last(), Some(&512));
+    for line in [&b"room 513"[..], b"room 514", b"room 65573"] {
+        assert!(refused.contains(line), "{}", line.escape_ascii());
+    }
+}
+
+fn first_word(line: &[u8]) -> &str {
+    let word = line.split(|byte| *byte == b' ').next().unwrap_or_default();
+    std::str::from_utf8(word).unwrap_or_default()
+}
+
+/// What a call of a receiver came to, in short.
+fn outcome(heard: &Heard) -> String {
+    let came = match heard.taken.came {
+        None => "nothing",
+        Some(Came::Frame(_)) => "frame",
+        Some(Came::Refused(_)) => "refused",
+    };
+    match &heard.answer {
+        None => came.to_string(),
+        Some(Answer::Refused(refusal) | Answer::RefusedFrame(refusal, _)) => {
+            format!("{came} refused {}", refusal.number())
+        }
+        Some(_) => format!("{came} ok"),
+    }
+}
+
+#[test]
+fn every_outcome_of_a_stream_is_met() {
+    let mut seen = BTreeSet::new();
+    for number in 1..60 {
+        let mut simulation = Simulation::new();
+        for line in generate::script(Rng::new(SEED, number), 3000).lines {
+            if let Some(Answer::Stream(calls)) = simulation.line(&line) {
+                let outcomes = calls.iter().map(outcome);
+                seen.extend(outcomes.map(|outcome| (first_word(&line).to_string(), outcome)));
+            }
+        }
+    }
+    let at_box = [
+        "frame ok",
+        "frame refused 1",
+        "frame refused 5",
+        "frame refused 6",
+    ];
+    let at_any_end = ["nothing", "refused", "frame ok"];
+    let faults = [14, 15, 16, 17, 18, 19].map(|number| format!("frame refused {number}"));
+    let faults = faults.each_ref().map(String::as_str);
+    for (first, outcomes) in [
+        ("stream", &["nothing", "frame", "refused"][..]),
+        ("stream-box", &at_any_end),
+        ("stream-box", &at_box),
+        ("stream-box", &["frame refused 7"]),
+        ("stream-box", &faults),
+        ("stream-office", &at_any_end),
+        ("stream-office", &faults),
+        ("pieces-box", &at_box),
+        ("pieces-box", &["nothing", "frame refused 7"]),
+        ("pieces-office", &["nothing", "frame ok"]),
+    ] {
+        for outcome in outcomes {
+            let met = (first.to_string(), outcome.to_string());
+            assert!(seen.contains(&met), "{met:?}");
+        }
+    }
+}
+
+/// The length of a frame, and after how many of its wrapped bytes a line ended.
+fn cut_frame(calls: &[Heard]) -> Option<(usize, usize)> {
+    let first = calls.first()?;
+    match &first.taken.came {
+        Some(Came::Frame(frame)) => {
+            let before = (frame.len() + 3).checked_sub(first.taken.count)?;
+            Some((frame.len(), before))
+        }
+        _ => None,
+    }
+}
+
+#[test]
+fn streams_are_cut_everywhere() {
+    let mut cuts = BTreeSet::new();
+    let mut dropped = 0;
+    let mut longest_skip = 0;
+    let mut longest_line = 0;
+    let mut restarts_amid = 0;
+    for number in 1..120 {
+        let mut simulation = Simulation::new();
+        for line in generate::script(Rng::new(SEED, number), 3000).lines {
+            let amid = !simulation.box_receiver().at_tag();
+            let answer = simulation.line(&line);
+            match (first_word(&line), answer) {
+                ("stream", Some(Answer::Stream(calls))) => {
+                    cuts.extend(cut_frame(&calls));
+                    longest_line = longest_line.max(line.len());
+                    longest_skip = longest_skip.max(simulation.bench_receiver().skipping());
+                }
+                ("dropped", Some(Answer::Dropped(count))) => dropped = dropped.max(count),
+                ("restart", Some(Answer::Ok)) if amid => restarts_amid += 1,
+                _ => {}
+            }
+        }
+    }
+    for length in [1, 2, 63, 64] {
+        for before in 0..length + 3 {
+            assert!(cuts.contains(&(length, before)), "{length} cut after {before}");
+        }
+    }
+    assert!((1..=64).all(|length| cuts.contains(&(length, 0))));
+    assert!(longest_line > 4000);
+    assert!(longest_skip > 60_000);
+    assert!(dropped > 65_536);
+    assert!(restarts_amid > 100, "{restarts_amid}");
+}
+
+#[test]
+fn pieces_of_every_length_are_met() {
+    let mut seen = BTreeSet::new();
+    for number in 1..60 {
+        for line in generate::script(Rng::new(SEED, number), 3000).lines {
+            let text = String::from_utf8_lossy(&line).into_owned();
+            if let [first @ ("pieces-box" | "pieces-office"), _, length] =
+                text.split(' ').collect::<Vec<_>>()[..]
+            {
+                seen.insert((first.to_string(), length.to_string()));
+            }
+        }
+    }
+    // An OPEN is wrapped in 10 bytes, an ACK in 12, a WELCOME in 40.
+    for (first, lengths) in [
+        ("pieces-box", [0, 1, 2, 3, 9, 10, 11, 128, 129]),
+        ("pieces-office", [0, 1, 2, 3, 11, 12, 13, 128, 129]),
+        ("pieces-office", [4, 5, 39, 40, 41, 64, 127, 128, 130]),
+    ] {
+        for length in lengths {
+            let met = (first.to_string(), length.to_string());
+            assert!(seen.contains(&met), "{met:?}");
+        }
+    }
+}
+
+fn lines_of(lines: &[&str]) -> Vec<Vec<u8>> {
+    lines.iter().map(|line| line.as_bytes().to_vec()).collect()
+}
+
+#[test]
+fn streams_in_a_list() {
+    let list = [
+        "open 3",
+        "pieces-box 1 3",
+        "pieces-office 1 128",
+        "raise 1",
+        "raise 2",
+        "stream-box 01 0E 00 12 06 00 03 00 00 00 01 00 22 02",
+        "show",
+        // The first order's rest and the second order.
+        "stream-box 00 01 00 01 0E 00 12 06 00 03 00 00 00 02 00 22 02 00 02 00",
+        "pieces-office 3 7",
+        "show",
+    ];
+    let covered = |lines: &[&str]| check::closing_sentences(&lines_of(lines));
+    assert_eq!(covered(&list), Ok(10));
+    // A frame amid another one, and one that nobody wrote.
+    assert_eq!(covered(&[&list[..6], &["pieces-box 3 128"]].concat()), Ok(6));
+    assert_eq!(
+        covered(&[&list[..5], &["stream-box 01 01 00 10", "show"]].concat()),
+        Ok(5)
+    );
+    let after_restart = ["restart", "pieces-box 3 128", "pieces-office 2 1", "show"];
+    assert_eq!(covered(&[&list[..6], &after_restart].concat()), Ok(10));
+}
+
+#[test]
+fn closing_sentences_hold() {
+    let scripts = (1..40).map(|number| generate::script(Rng::new(SEED, number), 3000));
+    let allowed: Vec<Script> = scripts.filter(|script| script.allowed).collect();
+    assert!(allowed.len() > 5);
+    let lines = allowed.iter().flat_map(|script| &script.lines);
+    let firsts: BTreeSet<&str> = lines.map(|line| first_word(line)).collect();
+    for first in ["pieces-box", "pieces-office", "stream-box", "stream-office"] {
+        assert!(firsts.contains(first), "{first}");
+    }
+    for script in allowed {
+        assert_eq!(check::closing_sentences(&script.lines), Ok(script.lines.len()));
+    }
+}
+
+#[test]
+fn shrinking_renumbers_deliveries() {
+    let lines = [
+        "open 1",
+        "open 2",
+        "show",
+        "open 3",
+        "to-box 3",
+        "to-office 1",
+        "show",
+    ];
+    let lines = lines_of(&lines);
+    let opens = |lines: &[Vec<u8>]| {
+        let mut simulation = Simulation::new();
+        lines.iter().position(|line| {
+            simulation.line(line);
+            simulation.office().settings().is_some()
+        })
+    };
+    let short = shrink::shortest(&lines, opens);
+    assert_eq!(short.join(&b' '), b"open 3 to-box 1 to-office 1");
+}
+
+#[test]
+fn shrinking_renumbers_pieces() {
+    let lines = lines_of(&[
+        "open 2",
+        "show",
+        "open 3",
+        // Writes a REFUSE and a WELCOME.
+        "stream-box 01 01 00 10 01 07 00 10 04 00 03 00 00 00",
+        "show",
+        "pieces-office 2 5",
+    ]);
+    let opens = |lines: &[Vec<u8>]| {
+        let mut simulation = Simulation::new();
+        lines.iter().position(|line| {
+            simulation.line(line);
+            simulation.office().settings().is_some()
+        })
+    };
+    let short = shrink::shortest(&lines, opens);
+    assert_eq!(
+        short.join(&b'/').escape_ascii().to_string(),
+        "open 3/stream-box 01 07 00 10 04 00 03 00 00 00/pieces-office 1 5"
+    );
+}
