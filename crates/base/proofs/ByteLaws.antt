@@ -3,7 +3,7 @@ use Prim.Native.Nat.{ℕ, zero, suc, _<_, _+_}
 use native.Mathlib.Omega.{arith}
 use mathlib.Core.Bool.{true}
 use mathlib.Core.List.{List, [], _∷_, _++_}
-use lib.ListN.{drop}
+use lib.ListN.{take, drop}
 use lib.Seq.{getD-drop}
 use lib.Dec.{T}
 use Rattle.base.specs.Bytes.{Bytes}
@@ -27,3 +27,8 @@ bytes-append (x ∷ xs) ys hs ht = bytes-cons x (xs ++ ys) (hs 0) (bytes-append 
 
 pub bytes-drop : (n : ℕ) (l : List ℕ) → Bytes l → Bytes (drop n l)
 bytes-drop n l h i = rw getD-drop (h (n + i))
+
+pub bytes-take : (n : ℕ) (l : List ℕ) → Bytes l → Bytes (take n l)
+bytes-take zero l h i = omega arith
+bytes-take (suc n) [] h i = h i
+bytes-take (suc n) (x ∷ l) h i = bytes-cons x (take n l) (h 0) (bytes-take n l (λ j. h (suc j))) i

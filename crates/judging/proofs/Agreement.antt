@@ -3,8 +3,8 @@ use Prim.Native.Nat.{ℕ, _+_, _<_, _≤_}
 use native.Mathlib.Nat.{add-zero}
 use native.Mathlib.Omega.{arith}
 use mathlib.Core.Path.{_≡_, refl, sym, ap, subst, _∙_}
-use mathlib.Core.Bool.{Bool, true, false, cond, not, _&&_, _||_, and-false}
-use mathlib.Core.List.{List, [], _∷_}
+use mathlib.Core.Bool.{Bool, true, false, Bool·beq, cond, not, _&&_, _||_, and-false, or-false}
+use mathlib.Core.List.{List, [], _∷_, List·Memᴰ, List·Memᴰ·not-nil}
 use mathlib.Core.Option.{Option, none, some}
 use lib.ListN.{length, getD, drop, length-drop}
 use lib.Seq.{getD-drop, drop-drop}
@@ -12,22 +12,18 @@ use lib.Dec.{T, eqb, leb, ltb}
 use borrow.Author.Tests.{eq-eqb, ne-eqb, lt-ltb, le-ltb, le-leb, lt-leb, eqb-true, eqb-false, ltb-true, ltb-false}
 use Rattle.base.specs.Bytes.{Bytes}
 use Rattle.base.specs.Refusal.{Fault, fault}
-use Rattle.base.proofs.ByteLaws.{bytes-drop}
+use Rattle.base.proofs.ByteLaws.{bytes-take, bytes-drop}
 use Rattle.base.proofs.Tests.{all-below, below-each}
 use Rattle.number.specs.Number.{le16, le32}
 use Rattle.judging.specs.declared.End.{End}
 use Rattle.judging.specs.declared.End.the-variants.{Box, Office}
-use Rattle.judging.specs.Decoding.{contents-length, field-length, contents, is-first, is-change, is-for, length-right, contents-allowed, unless, field-fault, end-fault, last-fault, rest-fault, fault-told, frame-in, decoded, decode}
-use Rattle.judging.specs.Faults.{among, first-tags, second-tags, tags-for, other, tag-at, length-at, end-at, place, places-behind, places, needed, wrong-length, wrong-contents, ends-early, unexpected-tag, unexpected-length, unexpected-contents, goes-on, for-other-end, tests, faults}
-use Rattle.judging.specs.Theorems.{Tells, TellsLeast}
-use Rattle.judging.proofs.Exact.{bytes-take, FirstTag, tag-opening, tag-welcome, tag-order, tag-ack, tag-refuse, first-tag, field-right}
-use Rattle.judging.proofs.Least.{first-at, first-of, NumbersFrom, OffsetsFrom, TellsFirst, first-least}
+use Rattle.judging.specs.Decoding.{contents-length, field-length, contents, is-first, is-change, is-for, length-right, contents-allowed, unless, field-fault, end-fault, last-fault, rest-fault, fault-told, frame-in, Decoded, a-fault, a-frame, decoded, decode}
+use Rattle.judging.specs.Faults.{among, first-tags, second-tags, tags-for, other, tag-at, length-at, end-at, place, places-behind, places, needed, wrong-length, wrong-contents, ends-early, unexpected-tag, unexpected-length, unexpected-contents, goes-on, for-other-end, tests, faults, Least}
+use Rattle.judging.specs.Theorems.{Tells, TellsLeast, FaultExact}
+use Rattle.judging.proofs.Exact.{FirstTag, tag-opening, tag-welcome, tag-order, tag-ack, tag-refuse, first-tag, field-right}
+use Rattle.judging.proofs.Least.{first-at, first-of, NumbersFrom, OffsetsFrom, TellsFirst, first-least, one-least}
 
 -- ---- two ways to say a test
-
-or-false : (x : Bool) → x || false ≡ x
-or-false true = refl
-or-false false = refl
 
 between : (k n : ℕ) → leb k n && leb n k ≡ eqb n k
 between k n = go (eqb n k) refl (ltb n k) refl
@@ -45,11 +41,7 @@ not-zero n = go (eqb n 0) refl
     go false e = rw (e, le-leb 1 n (omega (arith, eqb-false n 0 e)))
 
 -- tests of a byte that agree at each of the 256, by computing
-abbrev agree : Bool → Bool → Bool
-agree true y = y
-agree false y = not y
-
-agree-equal : (x y : Bool) → T (agree x y) → x ≡ y
+agree-equal : (x y : Bool) → T (Bool·beq x y) → x ≡ y
 agree-equal true true t = refl
 agree-equal true false t = absurd t
 agree-equal false true t = absurd t
@@ -57,11 +49,11 @@ agree-equal false false t = refl
 
 first-same : (tag : ℕ) → tag < 256 → is-first tag ≡ among tag first-tags
 unfolding all-below
-first-same tag h = agree-equal _ _ (below-each 256 (λ n. agree (is-first n) (among n first-tags)) tt tag h)
+first-same tag h = agree-equal _ _ (below-each 256 (λ n. Bool·beq (is-first n) (among n first-tags)) tt tag h)
 
 change-same : (tag : ℕ) → tag < 256 → is-change tag ≡ among tag (second-tags 0x12)
 unfolding all-below
-change-same tag h = agree-equal _ _ (below-each 256 (λ n. agree (is-change n) (among n (second-tags 0x12))) tt tag h)
+change-same tag h = agree-equal _ _ (below-each 256 (λ n. Bool·beq (is-change n) (among n (second-tags 0x12))) tt tag h)
 
 abbrev carried : ℕ → Bool → Bool
 carried r zero = among r (5 ∷ 6 ∷ 7 ∷ []) || (among r (14 ∷ 15 ∷ 16 ∷ 17 ∷ 18 ∷ 19 ∷ []) && zero)
@@ -71,8 +63,8 @@ allowed r zero = cond (leb 5 r && leb r 7) true (leb 14 r && leb r 19 && zero)
 
 refusal-same : (r : ℕ) → r < 256 → (zero : Bool) → carried r zero ≡ allowed r zero
 unfolding all-below
-refusal-same r h true = agree-equal _ _ (below-each 256 (λ n. agree (carried n true) (allowed n true)) tt r h)
-refusal-same r h false = agree-equal _ _ (below-each 256 (λ n. agree (carried n false) (allowed n false)) tt r h)
+refusal-same r h true = agree-equal _ _ (below-each 256 (λ n. Bool·beq (carried n true) (allowed n true)) tt r h)
+refusal-same r h false = agree-equal _ _ (below-each 256 (λ n. Bool·beq (carried n false) (allowed n false)) tt r h)
 
 -- ---- a tag's lengths and contents, in the table and in the tests
 
@@ -275,3 +267,13 @@ tells-least end b bytes = go (fault-told end b) (first-least (tests end b) 14 (n
     go : (o : Option Fault) → TellsFirst o (faults end b) → Tells (decoded o (frame-in b)) (faults end b)
     go (some f) least = least
     go none empty = empty
+
+pub fault-exact : FaultExact
+fault-exact end b bytes f = (
+  λ told. subst (λ (d : Decoded). Tells d (faults end b)) told (tells-least end b bytes),
+  λ least. go least (decode end b) (tells-least end b bytes),
+)
+  where
+    go : Least f (faults end b) → (d : Decoded) → Tells d (faults end b) → d ≡ a-fault f
+    go least (a-fault g) tells = ap a-fault (one-least g f (faults end b) tells least)
+    go least (a-frame frame) clean = absurd (List·Memᴰ·not-nil (subst (List·Memᴰ f) clean (least .one-of)))

@@ -1,5 +1,5 @@
 -- Bytes decode to a frame exactly where they are a valid frame's encoding, meant for this end.
-use Prim.Native.Nat.{ℕ, zero, suc, _+_, _<_, _≤_}
+use Prim.Native.Nat.{ℕ, suc, _+_, _<_, _≤_}
 use native.Mathlib.Nat.{le-antisymm}
 use native.Mathlib.Omega.{arith}
 use mathlib.Core.Path.{_≡_, refl, sym, ap, subst, _∙_}
@@ -12,7 +12,7 @@ use lib.Dec.{T, eqb, leb, ltb}
 use borrow.Author.Tests.{eqb-true, eqb-false, leb-true, ltb-false}
 use Rattle.base.specs.Bytes.{Bytes}
 use Rattle.base.specs.Refusal.{Fault, fault}
-use Rattle.base.proofs.ByteLaws.{bytes-drop}
+use Rattle.base.proofs.ByteLaws.{bytes-take, bytes-drop}
 use Rattle.base.proofs.Tests.{both-true}
 use Rattle.number.specs.Number.{le16, le16-bytes, le32, le32-bytes}
 use Rattle.number.proofs.NumberLaws.{le16-read, le32-read, le16-below, le32-below, le16-written, le32-written}
@@ -70,12 +70,6 @@ module _ (f : Fault) (o : Option Fault) where
 neither : (o next : Option Fault) → unless o next ≡ none → (o ≡ none) × (next ≡ none)
 neither (some f) next e = absurd (Option·some-ne-none f e)
 neither none next e = (refl, e)
-
-pub bytes-take : (n : ℕ) (l : List ℕ) → Bytes l → Bytes (take n l)
-bytes-take zero l h i = omega arith
-bytes-take (suc n) [] h i = h i
-bytes-take (suc n) (x ∷ l) h zero = h 0
-bytes-take (suc n) (x ∷ l) h (suc i) = bytes-take n l (λ j. h (suc j)) i
 
 -- a field with which nothing is wrong, at the front of b
 pub record Right (expected : Bool) (b : List ℕ) : Type 0 where

@@ -32,6 +32,10 @@ TellsLeast = (end : End) (b : List ℕ) → Bytes b → Tells (decode end b) (fa
 abbrev pub OneLeast : Type 0
 OneLeast = (f g : Fault) (fs : List Fault) → Least f fs → Least g fs → f ≡ g
 
+-- so bytes decode to a fault exactly when it is the least that they have
+abbrev pub FaultExact : Type 0
+FaultExact = (end : End) (b : List ℕ) → Bytes b → (f : Fault) → (decode end b ≡ a-fault f) ↔ Least f (faults end b)
+
 -- ---- where none is told
 
 -- the end for which a frame is meant

@@ -1,11 +1,11 @@
--- Demand 1 at both ends, proved: refusals keep the state.
+-- Demand 1 at both ends, proved: refusals keep the state, and what is no frame is refused.
 use Prim.Native.Nat.{ℕ, _-_}
 use native.Mathlib.Omega.{arith}
-use mathlib.Core.Path.{_≡_, refl, sym, ap, subst, _∙_}
+use mathlib.Core.Path.{_≡_, refl, sym, ap, _∙_}
 use mathlib.Core.List.{List}
 use mathlib.Core.Option.{Option, none, some}
 use lib.Dec.{eqb, leb, ltb}
-use borrow.Author.Tests.{eqb-true}
+use borrow.Author.Tests.{eqb-true, le-ltb}
 use Rattle.base.specs.Bytes.{Bytes}
 use Rattle.base.specs.Refusal.{Fault}
 use Rattle.base.proofs.Tests.{cond-cases}
@@ -14,8 +14,7 @@ use Rattle.judging.specs.declared.End.{End}
 use Rattle.judging.specs.declared.End.the-variants.{Box, Office as AtOffice}
 use Rattle.judging.specs.Decoding.{Decoded, a-fault, a-frame, decode}
 use Rattle.judging.specs.Faults.{faults, Least}
-use Rattle.judging.specs.Theorems.{Tells}
-use Rattle.judging.proofs.Agreement.{tells-least}
+use Rattle.judging.proofs.Agreement.{fault-exact}
 use Rattle.judging.proofs.Exact.{given-to-reader}
 use Rattle.link.specs.View.{frame-limit}
 use Rattle.session.specs.declared.Cab.{Cab}
@@ -25,7 +24,7 @@ use Rattle.session.specs.Box.{opened-again, opened, ordered-here, ordere
 use Rattle.session.specs.Calls.{Call, restart, box-frame, open-session, issue, resend, reopen, office-frame, at-cab, at-office}
 use Rattle.session.specs.Office as office
 use Rattle.session.specs.Refusals.{Keeps, accepts, opening-refused, issuing-refused, resending-refused, reopening-refused, office-frame-faulty}
-use Rattle.session.specs.Refusals.{output-short, box-frame-faulty, open-refused, order-refused, RefusalsKeep}
+use Rattle.session.specs.Refusals.{output-short, box-frame-faulty, open-refused, order-refused, RefusalsKeep, FaultsTold}
 use Rattle.session.specs.Turn.{Turn}
 
 -- the ends differ
@@ -36,7 +35,7 @@ other-way : AtOffice ≡ Box → ⊥
 other-way e = one-way (sym e)
 
 told-least : (end : End) (bytes : List ℕ) (f : Fault) → decode end bytes ≡ a-fault f → Bytes bytes → Least f (faults end bytes)
-told-least end bytes f told are-bytes = subst (λ (d : Decoded). Tells d (faults end bytes)) told (tells-least end bytes are-bytes)
+told-least end bytes f told are-bytes = fault-exact end bytes are-bytes f .0 told
 
 module _ (e : Ends) where
   -- ---- the box
@@ -129,3 +128,13 @@ refusals-keep e (issue c room) = issue-keeps e c room (office.issue-refusal (e .
 refusals-keep e (resend n room) = resend-keeps e n room
 refusals-keep e (reopen room) = reopen-keeps e room
 refusals-keep e (office-frame bytes) = office-keeps e bytes (decode AtOffice bytes) refl
+
+-- ---- bytes with a fault
+
+pub faults-told : FaultsTold
+unfolding frame-in
+faults-told e bytes are-bytes f =
+    record {
+      at-box = λ room fits least. rw (le-ltb room frame-limit fits, fault-exact Box bytes are-bytes f .1 least);
+      at-office = λ least. rw (fault-exact AtOffice bytes are-bytes f .1 least);
+    }

@@ -1,4 +1,4 @@
--- Demand 1 at both ends, stated: a call that refuses changes nothing, and writes nothing but the box's REFUSE. It is proved in proofs/Refusals.antt.
+-- Demand 1 at both ends, stated: a call that refuses changes nothing, and writes nothing but the box's REFUSE; what is no frame is refused. It is proved in proofs/Refusals.antt.
 use Prim.Native.Nat.{ℕ, _≤_}
 use mathlib.Core.Path.{_≡_}
 use mathlib.Core.List.{List}
@@ -9,6 +9,7 @@ use Rattle.frame.specs.Frame.{Change, Frame, opening, order}
 use Rattle.judging.specs.declared.End.the-variants.{Box, Office}
 use Rattle.judging.specs.Decoding.{a-frame, decode}
 use Rattle.judging.specs.Faults.{faults, Least}
+use Rattle.link.specs.View.{frame-limit}
 use Rattle.session.specs.declared.Ends.{Ends}
 use Rattle.session.specs.Calls.{Call, box-frame, open-session, issue, resend, reopen, office-frame, ends-rules}
 use Rattle.session.specs.Turn.{Turn, refused, refused-by, faulted, faulted-by}
@@ -32,3 +33,11 @@ pub data Keeps (e : Ends) : Call → Turn Ends → Type 0 where
 -- every call at either end, from every state
 abbrev pub RefusalsKeep : Type 0
 RefusalsKeep = (e : Ends) (c : Call) → Keeps e c (ends-rules e c)
+
+-- And the other way: bytes with a fault are refused as the least one says, at the box where there is room for its answer. Nothing else is made of them.
+pub record FaultTold (e : Ends) (bytes : List ℕ) (f : Fault) : Type 0 where
+  pub at-box : (room : ℕ) → frame-limit ≤ room → Least f (faults Box bytes) → ends-rules e (box-frame bytes room) ≡ faulted-by e f
+  pub at-office : Least f (faults Office bytes) → ends-rules e (office-frame bytes) ≡ faulted e f
+
+abbrev pub FaultsTold : Type 0
+FaultsTold = (e : Ends) (bytes : List ℕ) → Bytes bytes → (f : Fault) → FaultTold e bytes f
