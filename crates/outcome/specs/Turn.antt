@@ -9,14 +9,6 @@ use Rattle.base.specs.Refusal.{Fault, Told, plain, faulty, number-told}
 use Rattle.frame.specs.Frame.{Frame, refuse}
 use Rattle.link.specs.View.{encoding-of}
 
--- the most unanswered orders
-abbrev pub window-limit : ℕ
-window-limit = 8
-
--- the last order's number
-abbrev pub order-limit : ℕ
-order-limit = 65535
-
 -- the state afterwards, what a refusal tells if there is one, and the frame written if there is one
 pub record Turn (A : Type 0) : Type 0 where
   pub state : A
