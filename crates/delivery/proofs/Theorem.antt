@@ -11,7 +11,7 @@ use Rattle.link.proofs.FrameTheorems.{encode-short}
 use Rattle.wrapping.specs.Reading.{given}
 use Rattle.wrapping.specs.Theorems.{Wrappable}
 use Rattle.session.specs.declared.Ends.{Ends}
-use Rattle.session.specs.Calls.{Call, restart, box-frame, open-session, issue, resend, reopen, office-frame, state-after, first-ends, ends-rules, Log, first-log, log-after, AllowedFrom}
+use Rattle.session.specs.Calls.{Call, restart, box-frame, open-session, issue, resend, reopen, office-frame, issue-all, box-frames, state-after, first-ends, ends-rules, Log, first-log, log-after, AllowedFrom}
 use Rattle.session.specs.History.{History, first-history}
 use Rattle.session.proofs.Invariant.{Safe, safe-first}
 use Rattle.session.proofs.Refinement.{EndsAlike, first-ends-alike}
@@ -80,6 +80,8 @@ module _ (e : Ends) (h : History) (l : Log) (safe : Safe h l) (a : Arrivals) (bo
   arrives (whole (resend n room)) permitted = record { allowed = (permitted, tt); box = box; office = office }
   arrives (whole (reopen room)) permitted = record { allowed = (permitted, tt); box = box; office = office }
   arrives (whole (office-frame bytes)) permitted = record { allowed = (permitted, tt); box = box; office = office }
+  arrives (whole (issue-all orders bytes room)) permitted = record { allowed = (permitted, tt); box = box; office = office }
+  arrives (whole (box-frames lengths bytes room)) permitted = record { allowed = (permitted, tt); box = box; office = office }
   arrives (box-bytes piece room) begins =
       let fits : (f : List ℕ) → List·Memᴰ f (l .from-office) → Wrappable f = λ f m. wrappable (safe .requests f m) in
       record {

@@ -7,7 +7,7 @@ use Rattle.wrapping.specs.Wrapping.{wrapped}
 use Rattle.wrapping.specs.Receiver.{fresh}
 use Rattle.wrapping.specs.Reading.{Handed, frame, refused, given}
 use Rattle.session.specs.declared.Ends.{Ends}
-use Rattle.session.specs.Calls.{Call, restart, box-frame, open-session, issue, resend, reopen, office-frame}
+use Rattle.session.specs.Calls.{Call, restart, box-frame, open-session, issue, resend, reopen, office-frame, issue-all, box-frames}
 use Rattle.session.specs.Calls.{answer-of, state-after, first-ends, ends-rules, Log, first-log, log-after, Permitted}
 
 pub data ByteCall : Type 0 where
@@ -50,6 +50,8 @@ arrivals-with a (whole (issue c room)) = a
 arrivals-with a (whole (resend n room)) = a
 arrivals-with a (whole (reopen room)) = a
 arrivals-with a (whole (office-frame bytes)) = a
+arrivals-with a (whole (issue-all orders bytes room)) = a
+arrivals-with a (whole (box-frames lengths bytes room)) = a
 arrivals-with a (box-bytes piece room) = record { box = with-piece (a .box) piece; office = a .office }
 arrivals-with a (office-bytes piece) = record { box = a .box; office = with-piece (a .office) piece }
 

@@ -1,9 +1,9 @@
 -- Refinement at the box: each call turns the box as the history's rules turn its history, with the same answer.
-use Prim.Native.Nat.{ℕ, _+_, _-_}
+use Prim.Native.Nat.{ℕ, _+_, _-_, _*_}
 use native.Mathlib.Omega.{arith}
 use mathlib.Core.Path.{_≡_, refl, sym, ap, _∙_, subst}
 use mathlib.Core.Bool.{true, false, cond}
-use mathlib.Core.List.{List, [], _∷_, _++_}
+use mathlib.Core.List.{List, [], _∷_, _++_, foldr, List·Memᴰ, List·Memᴰ·head, List·Memᴰ·tail}
 use mathlib.Core.Option.{Option, none, some}
 use lib.ListN.{length}
 use lib.Dec.{eqb, leb, ltb}
@@ -20,11 +20,13 @@ use Rattle.link.specs.View.{frame-limit}
 use Rattle.order.proofs.Keeps.{valid-short}
 use Rattle.order.proofs.Laws.{obeys}
 use Rattle.session.specs.declared.Cab.{Cab}
-use Rattle.session.proofs.Alike.{Alike, answered-alike, cond-both, same-test, eqb-sym}
-use Rattle.session.specs.Box.{cab-of, started, welcomed, acknowledged, opened-again, opened, sent, obeyed, ordered-here, ordered, received, judged, frame-in}
-use Rattle.session.specs.History.{BoxHistory, restarted, with-taken, updated, rule-open, rule-order, rule-box-frame}
+use Rattle.session.proofs.Alike.{Alike, answered-alike, OutcomesAlike, refused-alike, AllAlike, none-alike, one-alike, turns-alike, cond-both, cond-or-not, same-test, eqb-sym}
+use Rattle.session.proofs.Batches.{fits-sum, frames-judged, all-judged-singly}
+use Rattle.outcome.specs.Batch.{batch-limit, cut, Outcome}
+use Rattle.session.specs.Box.{cab-of, started, welcomed, acknowledged, opened-again, opened, sent, obeyed, ordered-here, ordered, received, judged, frame-in, frames-in}
+use Rattle.session.specs.History.{BoxHistory, restarted, with-taken, updated, rule-open, rule-order, rule-box-frame, frames-singly, rule-box-frames}
 use Rattle.session.proofs.Tools.{updated-same, length-one-more}
-use Rattle.session.specs.Turn.{Turn, wrote, silent, refused, refused-by}
+use Rattle.outcome.specs.Turn.{Turn, wrote, silent, refused, refused-by}
 
 -- histories and boxes that hold the settings of the controller κ; an open session is the highest
 abbrev history-of : Controller → ℕ → Option ℕ → (ℕ → Settings) → (ℕ → List Change) → BoxHistory
@@ -132,7 +134,36 @@ read-alike {c} {b} a (a-frame (order s n change)) valid = by-valid (valid (order
 read-alike a (a-frame (ack s k)) valid = answered-alike a
 read-alike a (a-frame (refuse s r)) valid = answered-alike a
 
+frame-alike : {c : Cab} {b : BoxHistory} → CabAlike c b → (bytes : List ℕ) → ((f : Frame) → decode Box bytes ≡ a-frame f → Valid f) →
+    BoxAlike (judged c (decode Box bytes)) (rule-box-frame b (decode Box bytes))
+frame-alike a bytes valid = read-alike a (decode Box bytes) valid
+
 pub box-alike : {c : Cab} {b : BoxHistory} → CabAlike c b → (bytes : List ℕ) (room : ℕ) → ((f : Frame) → decode Box bytes ≡ a-frame f → Valid f) →
     BoxAlike (frame-in c bytes room) (cond (ltb room frame-limit) (refused b 1) (rule-box-frame b (decode Box bytes)))
 unfolding frame-in
-box-alike a bytes room valid = cond-both BoxAlike (ltb room frame-limit) (λ _. answered-alike a) (λ _. read-alike a (decode Box bytes) valid)
+box-alike a bytes room valid = cond-both BoxAlike (ltb room frame-limit) (λ _. answered-alike a) (λ _. frame-alike a bytes valid)
+
+-- ---- a run of frames
+
+-- what the frames decode to is valid
+abbrev pub EachValid : List (List ℕ) → Type 0
+EachValid fs = (bytes : List ℕ) → List·Memᴰ bytes fs → (f : Frame) → decode Box bytes ≡ a-frame f → Valid f
+
+frames-alike : {c : Cab} {b : BoxHistory} → CabAlike c b → (fs : List (List ℕ)) → EachValid fs → AllAlike CabAlike (frames-judged c fs) (frames-singly b fs)
+frames-alike a [] valid = none-alike
+frames-alike a (f ∷ fs) valid =
+    let first = frame-alike a f (valid f (List·Memᴰ·head refl)) in
+    one-alike first (frames-alike (first .states) fs (λ g m. valid g (List·Memᴰ·tail m)))
+
+pub run-alike : {c : Cab} {b : BoxHistory} → CabAlike c b → (lengths bytes : List ℕ) (room : ℕ) → (frames-in c lengths bytes room .refusal ≡ none → EachValid (cut lengths bytes)) →
+    OutcomesAlike CabAlike (frames-in c lengths bytes room) (rule-box-frames b lengths bytes room)
+unfolding frames-in rule-box-frames
+run-alike {c} {b} a lengths bytes room =
+    rw (cond-or-not, fits-sum lengths (length bytes), all-judged-singly) (cond-both P (ltb batch-limit (length lengths)) (λ _ _. refused-alike a)
+    (λ _. cond-both P (eqb (foldr _+_ 0 lengths) (length bytes))
+    (λ _. cond-both P (ltb room (frame-limit * length lengths)) (λ _ _. refused-alike a)
+    (λ _ valid. turns-alike CabAlike (frames-alike a (cut lengths bytes) (valid refl)) c b a))
+    (λ _ _. refused-alike a)))
+  where
+    P : Outcome Cab → Outcome BoxHistory → Type 0
+    P t u = (t .refusal ≡ none → EachValid (cut lengths bytes)) → OutcomesAlike CabAlike t u

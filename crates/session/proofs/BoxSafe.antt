@@ -4,7 +4,7 @@ use native.Mathlib.Omega.{arith}
 use mathlib.Core.Path.{_≡_, refl, sym, ap, _∙_, subst}
 use mathlib.Core.Bool.{true, cond}
 use mathlib.Core.List.{List, [], _∷_, _++_, List·Memᴰ}
-use mathlib.Core.Option.{Option, none, some, Option·map, Option·getD, Option·some-injective, Option·none-ne-some}
+use mathlib.Core.Option.{Option, none, some, Option·getD, Option·some-injective, Option·none-ne-some}
 use lib.ListN.{length, getElem?}
 use lib.Seq.{take-all}
 use lib.Dec.{eqb, leb, ltb}
@@ -13,20 +13,24 @@ use Rattle.base.proofs.Tests.{cond-cases}
 use Rattle.settings.proofs.RangeLaws.{fresh-held}
 use Rattle.base.specs.Refusal.{Told, plain}
 use Rattle.frame.specs.Frame.{Change, ValidChange, Frame, welcome, ack, refuse}
-use Rattle.link.specs.Encoding.{encode, Valid, valid-opening, valid-welcome, valid-order, valid-ack, valid-refuse}
+use Rattle.link.specs.Encoding.{Valid, valid-opening, valid-welcome, valid-order, valid-ack, valid-refuse}
 use Rattle.judging.specs.declared.End.the-variants.{Box}
 use Rattle.judging.specs.Decoding.{a-frame, decode}
 use Rattle.link.specs.View.{frame-limit}
 use Rattle.order.proofs.Keeps.{apply-held}
-use Rattle.session.specs.Turn.{Turn, wrote, silent, refused, refused-by}
-use Rattle.session.specs.Calls.{answer-of, Log, with-frame, logged-at-box, FitsSession}
+use Rattle.outcome.specs.Turn.{Turn, wrote, silent, refused, refused-by}
+use Rattle.outcome.specs.Batch.{Outcome, alone}
+use Rattle.session.specs.Calls.{answer-of, frames-of, reply-of, Log, with-frames, logged-at-box, FitsSession}
 use Rattle.session.specs.History.{is-live, BoxHistory, History, settings-after, orders, updated, restarted, with-session, with-taken, is-open, rule-open, rule-order, rule-box-frame, at-box}
 use Rattle.session.proofs.Tools.{updated-same, updated-other, updated-each, updated-by-own, getElem?-below, length-one-more}
 use Rattle.session.proofs.Tools.{Prefix, prefix-length, prefix-next, EachDecodes, decodes-weaker, decodes-one-more, decoded-at}
 use Rattle.session.proofs.Invariant.{settings-next, Request, request-opening, request-order, Reply, reply-welcome, reply-ack, reply-refuse, SessionSafe, BoxSafe, LiveSafe, Safe, taken-first, request-reader}
 
+abbrev pub BoxOutcomeSafe : History → Log → Outcome BoxHistory → Type 0
+BoxOutcomeSafe h l t = Safe (at-box h t .state) (logged-at-box l (answer-of t) (t .state .session))
+
 abbrev pub BoxTurnSafe : History → Log → Turn BoxHistory → Type 0
-BoxTurnSafe h l t = Safe (at-box h t .state) (logged-at-box l (answer-of t) (t .state .session))
+BoxTurnSafe h l t = BoxOutcomeSafe h l (alone t)
 
 -- what is asked of the box's next history: its own part of the invariant, and that true replies stay true
 pub record BoxFollows (h : History) (l : Log) (b : BoxHistory) : Type 0 where
@@ -43,7 +47,7 @@ open-session (some t) s e = ap {B = Option ℕ} some (eqb-true t s e)
 
 module _ (h : History) (l : Log) (safe : Safe h l) where
   module _ (b : BoxHistory) (follows : BoxFollows h l b) (refusal : Option Told) where
-    box-turn : (frame : Option Frame) → EachDecodes (Reply b) (with-frame (Option·map encode frame) (l .from-box)) →
+    box-turn : (frame : Option Frame) → EachDecodes (Reply b) (with-frames (frames-of (reply-of (record { refusal = refusal; frame = frame }) ∷ [])) (l .from-box)) →
         BoxTurnSafe h l (record { state = b; refusal = refusal; frame = frame })
     box-turn frame replies =
         search (session-follows, live-follows, follows .stays _ (safe .office .confirmed))
@@ -67,6 +71,9 @@ module _ (h : History) (l : Log) (safe : Safe h l) where
 
   unchanged : BoxFollows h l (h .box)
   unchanged = search (arith, taken-first h l safe)
+
+  pub box-kept : (refusal : Option Told) → BoxTurnSafe h l (record { state = h .box; refusal = refusal; frame = none })
+  box-kept = box-silent (h .box) unchanged
 
   replied : (refusal : Option Told) (f : Frame) → Valid f → Reply (h .box) f →
       BoxTurnSafe h l (record { state = h .box; refusal = refusal; frame = some f })
@@ -219,9 +226,12 @@ module _ (h : History) (l : Log) (safe : Safe h l) where
   read-safe _ (valid-opening fits) (request-opening {s = s}) = open-safe s fits
   read-safe _ (valid-order fits _ _ valid) (request-order {s = s} {n = n} {c = c} issued) = order-safe (h .box .session) refl s n c fits valid issued
 
+  pub frame-safe : (bytes : List ℕ) → List·Memᴰ bytes (l .from-office) → BoxTurnSafe h l (rule-box-frame (h .box) (decode Box bytes))
+  frame-safe bytes m =
+      let written = safe .requests bytes m in
+      rw (decoded-at Box request-reader written) (read-safe (written .frame) (written .valid) (written .holds))
+
   pub box-frame-safe : (bytes : List ℕ) (room : ℕ) → List·Memᴰ bytes (l .from-office) →
       BoxTurnSafe h l (cond (ltb room frame-limit) (refused (h .box) 1) (rule-box-frame (h .box) (decode Box bytes)))
   box-frame-safe bytes room m =
-      let written = safe .requests bytes m in
-      cond-cases (BoxTurnSafe h l) (ltb room frame-limit) _ _ (λ _. box-silent (h .box) unchanged (some (plain 1)))
-      (λ _. rw (decoded-at Box request-reader written) (read-safe (written .frame) (written .valid) (written .holds)))
+      cond-cases (BoxTurnSafe h l) (ltb room frame-limit) _ _ (λ _. box-kept (some (plain 1))) (λ _. frame-safe bytes m)

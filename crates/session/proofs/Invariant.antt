@@ -15,7 +15,7 @@ use Rattle.judging.specs.Theorems.{reader}
 use Rattle.order.specs.Apply.{apply}
 use Rattle.session.specs.Calls.{Log, first-log, FitsSession}
 use Rattle.session.specs.History.{is-awaiting, is-live, BoxHistory, OfficeHistory, History, first-history, settings-after, orders}
-use Rattle.session.specs.Turn.{order-limit}
+use Rattle.session.specs.Limits.{order-limit}
 use Rattle.session.proofs.Tools.{impossible, Prefix, EachDecodes}
 
 pub settings-next : (σ τ : Settings) (changes : List Change) (c : Change) → τ ≡ settings-after σ changes →

@@ -9,6 +9,7 @@ pub mod Alike
 pub mod Safety
 pub mod BoxSafe
 pub mod OfficeSafe
+pub mod BatchSafe
 pub mod Invariant
 -- settlement: what the invariant says where the office says settled
 pub mod Settlement
@@ -16,4 +17,8 @@ pub mod Settlement
 pub mod Tunnel
 -- demand 1 at both ends
 pub mod Refusals
+-- batches and runs, part by part
+pub mod Singly
+pub mod Batches
+pub mod BoxLaws
 pub mod Tools

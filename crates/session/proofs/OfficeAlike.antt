@@ -3,34 +3,39 @@ use Prim.Native.Nat.{ℕ, _+_, _-_, _%_, _<_, _≤_}
 use native.Mathlib.Omega.{arith}
 use mathlib.Core.Path.{_≡_, refl, sym, ap, _∙_, subst}
 use mathlib.Core.Bool.{Bool, true, false, cond, _||_}
-use mathlib.Core.List.{List, [], _∷_, _++_}
+use mathlib.Core.List.{List, [], _∷_, _++_, foldr}
 use mathlib.Core.Option.{Option, none, some, Option·some-injective, Option·none-ne-some}
-use lib.ListN.{length, getD, getElem?, set, length-set}
+use lib.ListN.{length, getD, getElem?, set, length-set, length-map}
 use lib.Seq.{getD-set-same, getD-set-other}
 use lib.Dec.{eqb, leb, ltb}
 use borrow.Author.Tests.{eqb-true, eqb-false, leb-true, leb-false, ltb-true}
+use Rattle.base.specs.Refusal.{Told}
 use Rattle.base.proofs.Tests.{cond-cases}
 use Rattle.settings.specs.declared.settings.Settings.{Settings}
 use Rattle.settings.specs.Settings.{fresh}
-use Rattle.frame.specs.Frame.{Change, too-long, opening, welcome, order, ack, refuse}
+use Rattle.frame.specs.Frame.{Change, Frame, too-long, opening, welcome, order, ack, refuse}
 use Rattle.judging.specs.declared.End.the-variants.{Office as AtOffice}
 use Rattle.judging.specs.Decoding.{Decoded, a-fault, a-frame, decode}
 use Rattle.frame.proofs.Laws.{asked-change-of}
 use Rattle.frame.specs.View.{asked}
-use Rattle.link.specs.View.{frame-limit}
+use Rattle.link.specs.View.{frame-limit, encoding-of}
 use Rattle.order.specs.Apply.{apply}
+use Rattle.outcome.specs.declared.BatchOrder.{BatchOrder}
 use Rattle.session.specs.declared.Office.{Office}
 use Rattle.session.specs.declared.Order.{Order}
 use Rattle.session.specs.declared.Stage.{Stage as OfficeStage}
 use Rattle.session.specs.declared.Stage.the-variants.{Unopened, Awaiting, Live, Ended}
-use Rattle.session.proofs.Alike.{Alike, answered-alike, cond-both, cond-and}
+use Rattle.outcome.specs.Batch.{batch-limit, data-lengths, changes, Outcome}
+use Rattle.session.proofs.Alike.{Alike, answered-alike, OutcomesAlike, refused-alike, AllAlike, none-alike, one-alike, turns-alike, first-refusals-alike, cond-both, cond-and, cond-or-not}
+use Rattle.session.proofs.Batches.{fits-sum, orders-singly, issue-each-singly}
 use Rattle.session.specs.History.{Stage, unopened, awaiting, live, ended, is-awaiting, is-live, BoxHistory, History, first-history}
 use Rattle.session.specs.History.{updated, orders, with-office, with-opening, with-welcome, with-issued}
-use Rattle.session.specs.History.{rule-opening, rule-issue, sent-again, rule-resend, rule-reopen, rule-welcome, rule-ack, rule-refuse, rule-office-frame, progress-at, progress}
+use Rattle.session.specs.History.{rule-opening, rule-issue, sent-again, rule-resend, rule-reopen, rule-welcome, rule-ack, rule-refuse, rule-office-frame, first-refusal, batch-unless, issued-singly, rule-issue-all, progress-at, progress}
 use Rattle.session.specs.Office as office
 use Rattle.session.specs.Office.{order-of, no-order, empty-window, office-of, never, with-order, issue-unless, kept-change, received, judged}
 use Rattle.session.proofs.Tools.{updated-same, length-one-more, getElem?-below, getElem?-append, getElem?-last}
-use Rattle.session.specs.Turn.{window-limit, order-limit, Turn, wrote, refused}
+use Rattle.session.specs.Limits.{window-limit, order-limit}
+use Rattle.outcome.specs.Turn.{Turn, wrote, refused, bytes-written}
 
 -- ---- the window
 
@@ -144,6 +149,43 @@ issue-alike (backed {h} {window} b) c room =
     (λ _. cond-both Both (leb window-limit (length (orders h) - h .office .confirmed)) (λ _. answered-alike (backed b))
     (λ few. answered-alike (issued-alike h window c b (omega (arith, leb-false window-limit (length (orders h) - h .office .confirmed) few))))))))
     (λ _. answered-alike (backed b)))
+
+-- ---- issuing a batch
+
+orders-alike : {box : BoxHistory} {x : Office} {h : History} → OfficeAlike box x h → (cs : List Change) (room : ℕ) →
+    AllAlike (OfficeAlike box) (orders-singly x cs room) (issued-singly h cs room)
+orders-alike a [] room = none-alike
+orders-alike {box} {x} {h} a (c ∷ cs) room =
+    let first = issue-alike a c room in
+    let t = office.issue x c room in
+    let u = rule-issue h c room in
+    one-alike first (subst (λ (frame : Option Frame). AllAlike (OfficeAlike box) (orders-singly (t .state) cs (room - length (bytes-written t))) (issued-singly (u .state) cs (room - length (encoding-of frame))))
+    (first .same-frame) (orders-alike (first .states) cs (room - length (bytes-written t))))
+
+pub batch-alike : {box : BoxHistory} {x : Office} {h : History} → OfficeAlike box x h → (orders : List BatchOrder) (bytes : List ℕ) (room : ℕ) →
+    OutcomesAlike (OfficeAlike box) (office.issue-all x orders bytes room) (rule-issue-all h orders bytes room)
+unfolding office.issue-all rule-issue-all
+batch-alike {box} {x} {h} a orders bytes room =
+    rw (cond-or-not, length-map, fits-sum (data-lengths orders) (length bytes), issue-each-singly) (cond-both P (ltb batch-limit (length orders)) (λ _. refused-alike a)
+    (λ _. cond-both P (eqb (foldr _+_ 0 (data-lengths orders)) (length bytes))
+    (λ _. by-refusal (first-refusal us) (first-refusals-alike (OfficeAlike box) each))
+    (λ _. refused-alike a)))
+  where
+    P : Outcome Office → Outcome History → Type 0
+    P t u = OutcomesAlike (OfficeAlike box) t u
+
+    ts : List (Turn Office)
+    ts = orders-singly x (changes orders bytes) room
+
+    us : List (Turn History)
+    us = issued-singly h (changes orders bytes) room
+
+    each : AllAlike (OfficeAlike box) ts us
+    each = orders-alike a (changes orders bytes) room
+
+    by-refusal : (m : Option Told) → first-refusal ts ≡ m → P (batch-unless (first-refusal ts) x ts) (batch-unless m h us)
+    by-refusal none e = rw e (turns-alike (OfficeAlike box) each x h a)
+    by-refusal (some told) e = rw e (refused-alike a)
 
 -- ---- sending again
 

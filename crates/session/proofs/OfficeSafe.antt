@@ -16,21 +16,27 @@ use Rattle.judging.specs.declared.End.the-variants.{Office}
 use Rattle.judging.specs.Decoding.{a-frame, decode}
 use Rattle.link.specs.View.{frame-limit}
 use Rattle.order.specs.Apply.{apply}
-use Rattle.session.specs.Turn.{window-limit, order-limit, Turn, wrote}
-use Rattle.session.specs.Calls.{answer-of, Log, named-unless, logged-at-office, FitsSession, FitsChange}
+use Rattle.session.specs.Limits.{window-limit, order-limit}
+use Rattle.outcome.specs.Turn.{Turn, wrote}
+use Rattle.outcome.specs.Batch.{Outcome, alone}
+use Rattle.session.specs.Calls.{answer-of, refusals, Log, named-unless, logged-at-office, FitsSession, FitsChange}
 use Rattle.session.specs.History.{live, is-awaiting, is-live, History, settings-after, updated, orders, with-office, with-opening, with-welcome, with-issued, unanswered, sent-again}
 use Rattle.session.specs.History.{rule-opening, rule-issue, rule-resend, rule-reopen, rule-welcome, rule-ack, rule-refuse, rule-office-frame}
 use Rattle.session.proofs.Tools.{impossible, updated-same, updated-each, updated-by-own, getElem?-below, getElem?-append, getElem?-last, getElem?-each, length-one-more}
 use Rattle.session.proofs.Tools.{prefix-append, EachDecodes, decodes-weaker, decodes-one-more, decoded-at}
 use Rattle.session.proofs.Invariant.{settings-next, Request, request-opening, request-order, Reply, SessionSafe, LiveSafe, Safe, none-confirmed, reply-reader}
 
+abbrev pub OfficeOutcomeSafe : Log → Outcome History → Type 0
+OfficeOutcomeSafe l t = Safe (t .state) (logged-at-office l (answer-of t) (l .named))
+
 abbrev OfficeTurnSafe : Log → Turn History → Type 0
-OfficeTurnSafe l t = Safe (t .state) (logged-at-office l (answer-of t) (l .named))
+OfficeTurnSafe l t = OfficeOutcomeSafe l (alone t)
 
 -- an opening names its session unless it is refused
 abbrev pub OpeningTurnSafe : Log → ℕ → Turn History → Type 0
 OpeningTurnSafe l s t =
-    (t .refusal ≡ none → List·Memᴰ s (l .named) → ⊥) → Safe (t .state) (logged-at-office l (answer-of t) (named-unless (t .refusal) s (l .named)))
+    (refusals (answer-of (alone t)) ≡ [] → List·Memᴰ s (l .named) → ⊥) →
+    Safe (t .state) (logged-at-office l (answer-of (alone t)) (named-unless (refusals (answer-of (alone t))) s (l .named)))
 
 fitting-valid : (c : Change) → FitsChange c → too-long c ≡ false → ValidChange c
 fitting-valid (command k d) (byte, bytes) short = valid-command byte (ltb-false _ _ short) bytes
@@ -47,7 +53,7 @@ module _ (h : History) (l : Log) (safe : Safe h l) where
 
   module _ (s : ℕ) (fits : FitsSession s) (new : List·Memᴰ s (l .named) → ⊥) where
     abbrev opening-log : Log
-    opening-log = logged-at-office l (answer-of (wrote (with-opening h s) (opening s))) (s ∷ l .named)
+    opening-log = logged-at-office l (answer-of (alone (wrote (with-opening h s) (opening s)))) (s ∷ l .named)
 
     session-named : (t : ℕ) → SessionSafe t (h .issued t) (h .box .taken t) (s ∷ l .named)
     session-named t = let old = safe .sessions t in search (old .unnamed, List·Memᴰ·tail)

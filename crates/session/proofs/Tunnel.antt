@@ -1,8 +1,9 @@
--- The tunnel's list of calls is allowed and ends settled: computed.
+-- The tunnel's lists of calls are allowed and end settled: computed.
 use Prim.Native.Nat.{ℕ}
-use mathlib.Core.Path.{refl}
-use mathlib.Core.List.{List, _∷_, List·Memᴰ, List·Memᴰ·head, List·Memᴰ·tail, List·Memᴰ·not-nil}
+use mathlib.Core.Path.{refl, sym, subst}
+use mathlib.Core.List.{List, [], _∷_, List·Memᴰ, List·Memᴰ·head, List·Memᴰ·tail, List·Memᴰ·not-nil}
 use native.Mathlib.Omega.{arith}
+use Rattle.frame.specs.Frame.{Change}
 use Rattle.packet.specs.Packet.{total, checksum, escape-byte, escape, fields, packet-of, has-escape}
 use Rattle.number.specs.Signed.{offset, magnitude, sign}
 use Rattle.registers.specs.Block.{block, from-block}
@@ -14,7 +15,9 @@ use Rattle.judging.specs.Decoding.{length-right, settings-allowed, contents-all
 use Rattle.order.specs.Apply.{apply}
 use Rattle.session.specs.Box as box
 use Rattle.session.specs.Office as office
-use Rattle.session.specs.Tunnel.{TunnelSettles}
+use Rattle.outcome.specs.Batch.{fits}
+use Rattle.session.specs.Calls.{FitsChange}
+use Rattle.session.specs.Tunnel.{TunnelSettles, BatchTunnelSettles}
 
 -- the last frame written, and the one before it
 pub last : {bytes : List ℕ} {frames : List (List ℕ)} → List·Memᴰ bytes (bytes ∷ frames)
@@ -39,6 +42,39 @@ tunnel-settles =
           (call tt (call tt
           (call before (call last
           (call last (call before tt)))))))))))));
+      settled = refl;
+      same-session = refl;
+      issued = refl;
+      taken = refl;
+      office-level = refl;
+      box-level = refl;
+    }
+
+-- a frame of the two, if it is written
+either-one : {f g : List ℕ} {frames : List (List ℕ)} → List·Memᴰ f frames → List·Memᴰ g frames → (x : List ℕ) → List·Memᴰ x (f ∷ g ∷ []) → List·Memᴰ x frames
+either-one {f} {g} {frames} first second x (List·Memᴰ·head e) = subst (λ (y : List ℕ). List·Memᴰ y frames) (sym e) first
+either-one {f} {g} {frames} first second x (List·Memᴰ·tail (List·Memᴰ·head e)) = subst (λ (y : List ℕ). List·Memᴰ y frames) (sym e) second
+either-one first second x (List·Memᴰ·tail (List·Memᴰ·tail m)) = absurd (List·Memᴰ·not-nil m)
+
+-- three changes that are the same
+each-fits : {c : Change} → FitsChange c → (d : Change) → List·Memᴰ d (c ∷ c ∷ c ∷ []) → FitsChange d
+each-fits fits d (List·Memᴰ·head e) = subst FitsChange (sym e) fits
+each-fits fits d (List·Memᴰ·tail (List·Memᴰ·head e)) = subst FitsChange (sym e) fits
+each-fits fits d (List·Memᴰ·tail (List·Memᴰ·tail (List·Memᴰ·head e))) = subst FitsChange (sym e) fits
+each-fits fits d (List·Memᴰ·tail (List·Memᴰ·tail (List·Memᴰ·tail m))) = absurd (List·Memᴰ·not-nil m)
+
+pub batch-tunnel-settles : BatchTunnelSettles
+unfolding encode decode fault-told rest-fault last-fault field-fault contents-allowed settings-allowed length-right frame-in change-in block from-block offset magnitude sign box.frame-in box.received box.opened box.ordered box.ordered-here box.sent office.open-session office.issue-refusal office.issue office.resend office.welcomed office.acknowledged office.received packet-of fields escape escape-byte checksum total run after start inside feed-at judge after-length after-data perform-found perform-offered write-register lookup access apply has-escape box.frames-in office.issue-all office.issue-each fits
+batch-tunnel-settles =
+    record {
+      allowed =
+          call (omega arith, λ _. List·Memᴰ·not-nil)
+          (call last (call last
+          (call (each-fits (omega arith))
+          (call (λ _. either-one (List·Memᴰ·tail before) before)
+          (call tt (call tt
+          (call (λ _. either-one before last)
+          (call last (call before tt)))))))));
       settled = refl;
       same-session = refl;
       issued = refl;

@@ -1,10 +1,10 @@
--- The cab box: document 01, "The adjustment link", Box.
-use Prim.Native.Nat.{ℕ, _-_}
+-- The cab box: document 01, "The adjustment link", Box; a run of frames: document 02, Ask 3.
+use Prim.Native.Nat.{ℕ, _-_, _*_}
 use mathlib.Core.Bool.{Bool, true, false, cond}
-use mathlib.Core.List.{List}
-use lib.ListN.{replicate}
+use mathlib.Core.List.{List, foldl}
+use lib.ListN.{length, replicate}
 use lib.Dec.{eqb, leb, ltb}
-use Rattle.base.specs.Refusal.{fault}
+use Rattle.base.specs.Refusal.{fault, plain}
 use Rattle.bus.specs.declared.Controller.{Controller}
 use Rattle.bus.specs.Bus as bus
 use Rattle.bus.specs.Run.{run}
@@ -14,7 +14,8 @@ use Rattle.judging.specs.Decoding.{Decoded, a-fault, a-frame, decode}
 use Rattle.link.specs.View.{frame-limit}
 use Rattle.order.specs.Apply.{order-packet}
 use Rattle.session.specs.declared.Cab.{Cab}
-use Rattle.session.specs.Turn.{Turn, wrote, refused, refused-by, faulted-by}
+use Rattle.outcome.specs.Batch.{batch-limit, cut, fits, Outcome, begun, extended, refused-whole}
+use Rattle.outcome.specs.Turn.{Turn, wrote, refused, refused-by, faulted-by}
 
 -- ---- opening a session
 
@@ -94,3 +95,21 @@ unfoldable pub frame-in : Cab → List ℕ → ℕ → Turn Cab
 frame-in c bytes room =
     cond (ltb room frame-limit) (refused c 1)
     (judged c (decode Box bytes))
+
+-- ---- a run of frames
+
+-- one frame more, judged alone from the box that the earlier ones left; there is room for its answer
+abbrev pub judged-next : Outcome Cab → List ℕ → Outcome Cab
+judged-next t bytes = extended t (judged (t .state) (decode Box bytes))
+
+abbrev pub all-judged : Cab → List (List ℕ) → Outcome Cab
+all-judged c frames = foldl judged-next (begun c) frames
+
+-- frames in, with their lengths beside them and `room` bytes lent for all answers
+unfoldable pub frames-in : Cab → List ℕ → List ℕ → ℕ → Outcome Cab
+frames-in c lengths bytes room =
+    cond (ltb batch-limit (length lengths)) (refused-whole c (plain 2))
+    (cond (fits lengths (length bytes))
+    (cond (ltb room (frame-limit * length lengths)) (refused-whole c (plain 1))
+    (all-judged c (cut lengths bytes)))
+    (refused-whole c (plain 2)))

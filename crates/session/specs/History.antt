@@ -1,13 +1,14 @@
 -- The history, fed the calls alone: document 01, "Demand 3's list and book", Book.
--- With the ends it shares the types of changes, frames, settings and progress; Turn.antt's limits and kinds of turn; `decode`, `frame-limit`, `fresh` and `too-long`;
--- `apply`, which of the ends only the office uses; and the calls, their fold and `encode` in Calls.antt. The rules, their stages and the refusals' numbers are told anew.
-use Prim.Native.Nat.{ℕ, _+_, _-_}
-use mathlib.Core.Bool.{Bool, true, false, cond, _&&_, _||_}
-use mathlib.Core.List.{List, [], _∷_, _++_, foldl}
+-- With the ends it shares the types of changes, frames, settings and progress; Turn.antt's limits and kinds of turn; in Batch.antt what is lent, but for the test of
+-- lengths, and the types of what a call gives; `decode`, `frame-limit`, `fresh` and `too-long`; `apply`, which of the ends only the office uses; and the calls, their fold
+-- and `encode` in Calls.antt. The rules, their stages and the refusals' numbers are told anew.
+use Prim.Native.Nat.{ℕ, _+_, _-_, _*_}
+use mathlib.Core.Bool.{Bool, true, false, cond, not, _&&_, _||_}
+use mathlib.Core.List.{List, [], _∷_, _++_, map, foldl, foldr}
 use mathlib.Core.Option.{Option, none, some}
 use lib.ListN.{length, getElem?}
 use lib.Dec.{eqb, leb, ltb}
-use Rattle.base.specs.Refusal.{fault}
+use Rattle.base.specs.Refusal.{Told, fault, plain}
 use Rattle.settings.specs.declared.settings.Settings.{Settings}
 use Rattle.settings.specs.Settings.{fresh}
 use Rattle.frame.specs.Frame.{Change, too-long, opening, welcome, order, ack, refuse}
@@ -15,10 +16,13 @@ use Rattle.judging.specs.declared.End.the-variants.{Box, Office}
 use Rattle.judging.specs.Decoding.{Decoded, a-fault, a-frame, decode}
 use Rattle.link.specs.View.{frame-limit}
 use Rattle.order.specs.Apply.{apply}
+use Rattle.outcome.specs.declared.BatchOrder.{BatchOrder}
 use Rattle.session.specs.declared.Progress.{Progress}
 use Rattle.session.specs.declared.Progress.the-variants.{Settled, Waiting, Over}
-use Rattle.session.specs.Calls.{Call, restart, box-frame, open-session, issue, resend, reopen, office-frame}
-use Rattle.session.specs.Turn.{window-limit, order-limit, Turn, wrote, silent, refused, refused-by, faulted, faulted-by}
+use Rattle.session.specs.Calls.{Call, restart, box-frame, open-session, issue, resend, reopen, office-frame, issue-all, box-frames}
+use Rattle.outcome.specs.Batch.{batch-limit, cut, data-lengths, changes, Outcome, part-of, alone, refused-whole}
+use Rattle.session.specs.Limits.{window-limit, order-limit}
+use Rattle.outcome.specs.Turn.{Turn, bytes-written, wrote, silent, refused, refused-by, faulted, faulted-by}
 
 pub record BoxHistory : Type 0 where
   pub highest : ℕ
@@ -206,6 +210,55 @@ rule-office-frame h (a-frame (order s n c)) = faulted h (fault 19 0)
 rule-office-frame h (a-frame (ack s k)) = silent (rule-ack h s k)
 rule-office-frame h (a-frame (refuse s r)) = silent (rule-refuse h s r)
 
+-- ---- several at once
+
+-- more than 8, or lengths that do not sum to the bytes lent
+abbrev pub misfit : List ℕ → List ℕ → Bool
+misfit lengths bytes = ltb batch-limit (length lengths) || not (eqb (foldr _+_ 0 lengths) (length bytes))
+
+-- the state after turns one after another, each from the one before; what the first refusal among them tells
+abbrev pub last-state : {A : Type 0} → A → List (Turn A) → A
+last-state a [] = a
+last-state a (t ∷ ts) = last-state (t .state) ts
+
+abbrev pub or-else : Option Told → Option Told → Option Told
+or-else none later = later
+or-else (some told) later = some told
+
+abbrev pub first-refusal : {A : Type 0} → List (Turn A) → Option Told
+first-refusal [] = none
+first-refusal (t ∷ ts) = or-else (t .refusal) (first-refusal ts)
+
+abbrev pub after-turns : {A : Type 0} → A → List (Turn A) → Outcome A
+after-turns a ts = record { state = last-state a ts; refusal = none; parts = map part-of ts }
+
+-- each frame of a run by itself
+abbrev pub frames-singly : BoxHistory → List (List ℕ) → List (Turn BoxHistory)
+frames-singly b [] = []
+frames-singly b (f ∷ fs) = let t = rule-box-frame b (decode Box f) in t ∷ frames-singly (t .state) fs
+
+unfoldable pub rule-box-frames : BoxHistory → List ℕ → List ℕ → ℕ → Outcome BoxHistory
+rule-box-frames b lengths bytes room =
+    cond (misfit lengths bytes) (refused-whole b (plain 2))
+    (cond (ltb room (frame-limit * length lengths)) (refused-whole b (plain 1))
+    (after-turns b (frames-singly b (cut lengths bytes))))
+
+-- each order of a batch by itself, given the output that the earlier ones left
+abbrev pub issued-singly : History → List Change → ℕ → List (Turn History)
+issued-singly h [] room = []
+issued-singly h (c ∷ cs) room = let t = rule-issue h c room in t ∷ issued-singly (t .state) cs (room - length (bytes-written t))
+
+-- if one of them would be refused, nothing is issued, and the refusal is the first one's
+abbrev pub batch-unless : {A : Type 0} → Option Told → A → List (Turn A) → Outcome A
+batch-unless none a ts = after-turns a ts
+batch-unless (some told) a ts = refused-whole a told
+
+unfoldable pub rule-issue-all : History → List BatchOrder → List ℕ → ℕ → Outcome History
+rule-issue-all h batch bytes room =
+    let ts = issued-singly h (changes batch bytes) room in
+    cond (misfit (data-lengths batch) bytes) (refused-whole h (plain 2))
+    (batch-unless (first-refusal ts) h ts)
+
 -- what the office says of its session: 01's word
 abbrev pub progress-at : Stage → History → Progress
 progress-at unopened h = Waiting
@@ -218,14 +271,16 @@ progress h = progress-at (h .office .stage) h
 
 -- ---- the rules by call
 
-abbrev pub at-box : History → Turn BoxHistory → Turn History
-at-box h t = record { state = record { issued = h .issued; box = t .state; office = h .office }; refusal = t .refusal; frame = t .frame }
+abbrev pub at-box : History → Outcome BoxHistory → Outcome History
+at-box h t = record { state = record { issued = h .issued; box = t .state; office = h .office }; refusal = t .refusal; parts = t .parts }
 
-abbrev pub rules : History → Call → Turn History
-rules h (restart told) = at-box h (silent (restarted (h .box) told))
-rules h (box-frame bytes room) = at-box h (cond (ltb room frame-limit) (refused (h .box) 1) (rule-box-frame (h .box) (decode Box bytes)))
-rules h (open-session s room) = rule-opening h s room
-rules h (issue c room) = rule-issue h c room
-rules h (resend n room) = rule-resend h n room
-rules h (reopen room) = rule-reopen h room
-rules h (office-frame bytes) = rule-office-frame h (decode Office bytes)
+abbrev pub rules : History → Call → Outcome History
+rules h (restart told) = at-box h (alone (silent (restarted (h .box) told)))
+rules h (box-frame bytes room) = at-box h (alone (cond (ltb room frame-limit) (refused (h .box) 1) (rule-box-frame (h .box) (decode Box bytes))))
+rules h (open-session s room) = alone (rule-opening h s room)
+rules h (issue c room) = alone (rule-issue h c room)
+rules h (resend n room) = alone (rule-resend h n room)
+rules h (reopen room) = alone (rule-reopen h room)
+rules h (office-frame bytes) = alone (rule-office-frame h (decode Office bytes))
+rules h (issue-all batch bytes room) = rule-issue-all h batch bytes room
+rules h (box-frames lengths bytes room) = at-box h (rule-box-frames (h .box) lengths bytes room)

@@ -4,6 +4,7 @@ pub mod Calls
 pub mod History
 pub mod Box
 pub mod Office
-pub mod Turn
+pub mod Limits
 pub mod Tunnel
 pub mod Refusals
+pub mod Singly

@@ -1,11 +1,11 @@
--- The office end: document 01, "The adjustment link", Office.
+-- The office end: document 01, "The adjustment link", Office; a batch of orders: document 02, Ask 3.
 use Prim.Native.Nat.{ℕ, _+_, _-_, _%_}
 use mathlib.Core.Bool.{Bool, true, false, cond, _||_}
-use mathlib.Core.List.{List}
+use mathlib.Core.List.{List, foldl}
 use mathlib.Core.Option.{Option, none, some}
-use lib.ListN.{getD, set, replicate}
+use lib.ListN.{length, getD, set, replicate}
 use lib.Dec.{eqb, leb, ltb}
-use Rattle.base.specs.Refusal.{fault}
+use Rattle.base.specs.Refusal.{Told, fault, plain}
 use Rattle.settings.specs.declared.settings.Settings.{Settings}
 use Rattle.settings.specs.Settings.{fresh}
 use Rattle.frame.specs.Frame.{Change, raise, too-long, Frame, opening, welcome, order, ack, refuse}
@@ -14,13 +14,16 @@ use Rattle.judging.specs.Decoding.{Decoded, a-fault, a-frame, decode}
 use Rattle.frame.specs.View.{asked, change-of}
 use Rattle.link.specs.View.{frame-limit}
 use Rattle.order.specs.Apply.{apply}
+use Rattle.outcome.specs.declared.BatchOrder.{BatchOrder}
 use Rattle.session.specs.declared.Office.{Office}
 use Rattle.session.specs.declared.Order.{Order}
 use Rattle.session.specs.declared.Progress.{Progress}
 use Rattle.session.specs.declared.Progress.the-variants.{Settled, Waiting, Over}
 use Rattle.session.specs.declared.Stage.{Stage}
 use Rattle.session.specs.declared.Stage.the-variants.{Unopened, Awaiting, Live, Ended}
-use Rattle.session.specs.Turn.{window-limit, order-limit, Turn, wrote, silent, refused, faulted}
+use Rattle.outcome.specs.Batch.{batch-limit, data-lengths, changes, fits, Outcome, begun, extended, refused-whole, bytes-of-parts}
+use Rattle.session.specs.Limits.{window-limit, order-limit}
+use Rattle.outcome.specs.Turn.{Turn, wrote, silent, refused, faulted}
 
 -- ---- the office's state
 
@@ -86,6 +89,40 @@ issue-unless none o change = wrote (with-order o change) (order (o .session .0) 
 
 unfoldable pub issue : Office → Change → ℕ → Turn Office
 issue o change room = issue-unless (issue-refusal o change room) o change
+
+-- ---- issuing a batch
+
+-- an order that is refused refuses the whole
+abbrev pub extended-unless : Option Told → Outcome Office → Turn Office → Outcome Office
+extended-unless none t next = extended t next
+extended-unless (some told) t next = refused-whole (t .state) told
+
+-- the next order, given the output that the earlier ones left; behind a refused one none is issued
+abbrev pub issue-unless-refused : Option Told → ℕ → Outcome Office → Change → Outcome Office
+issue-unless-refused (some told) room t change = t
+issue-unless-refused none room t change =
+    let next = issue (t .state) change (room - length (bytes-of-parts (t .parts))) in
+    extended-unless (next .refusal) t next
+
+abbrev pub issue-next : ℕ → Outcome Office → Change → Outcome Office
+issue-next room t change = issue-unless-refused (t .refusal) room t change
+
+-- all, or nothing: what was issued before a refused order is undone
+abbrev pub all-or-none : Option Told → Office → Outcome Office → Outcome Office
+all-or-none none o t = t
+all-or-none (some told) o t = refused-whole o told
+
+unfoldable pub issue-each : Office → List Change → ℕ → Outcome Office
+issue-each o cs room =
+    let t = foldl (issue-next room) (begun o) cs in
+    all-or-none (t .refusal) o t
+
+-- orders with their data, and `room` bytes lent for all frames
+unfoldable pub issue-all : Office → List BatchOrder → List ℕ → ℕ → Outcome Office
+issue-all o orders bytes room =
+    cond (ltb batch-limit (length orders)) (refused-whole o (plain 2))
+    (cond (fits (data-lengths orders) (length bytes)) (issue-each o (changes orders bytes) room)
+    (refused-whole o (plain 2)))
 
 -- ---- sending again, each as the same frame
 

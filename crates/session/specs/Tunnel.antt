@@ -1,13 +1,15 @@
--- Demand 3 supposes what its list of calls keeps to. Here is such a list, the winter's tunnel as in scenarios/tunnel.script, and how it ends.
--- It is proved in proofs/Tunnel.antt, by computing.
-use Prim.Native.Nat.{ℕ}
+-- Demand 3 supposes what its list of calls keeps to. Here are two such lists, the winter's tunnel as in scenarios/tunnel.script and the same in batches and runs, and how they
+-- end. It is proved in proofs/Tunnel.antt, by computing.
+use Prim.Native.Nat.{ℕ, _+_, _*_}
 use mathlib.Core.Path.{_≡_}
-use mathlib.Core.List.{List, [], _∷_}
+use mathlib.Core.List.{List, [], _∷_, _++_}
 use mathlib.Core.Option.{some}
 use Rattle.frame.specs.Frame.{raise}
+use Rattle.frame.specs.declared.frame.Ask.the-variants.{Raise}
 use Rattle.link.specs.View.{frame-limit}
+use Rattle.outcome.specs.declared.BatchOrder.{BatchOrder}
 use Rattle.session.specs.declared.Progress.the-variants.{Settled}
-use Rattle.session.specs.Calls.{Call, box-frame, open-session, issue, resend, office-frame, cab-session, Allowed}
+use Rattle.session.specs.Calls.{Call, box-frame, open-session, issue, resend, office-frame, issue-all, box-frames, cab-session, Allowed}
 use Rattle.session.specs.Claim.{ends-after}
 use Rattle.session.specs.Office as office
 
@@ -51,13 +53,40 @@ tunnel =
     ∷ office-frame (ack-bytes 2)
     ∷ []
 
--- it keeps to 01's List, and ends settled: three orders issued, three taken, level 3000 at both ends
-pub record TunnelSettles : Type 0 where
-  pub allowed : Allowed tunnel
+-- the same with the three raises in one batch, in the least output for them, and with the orders in runs
+abbrev pub raise-1000 : BatchOrder
+raise-1000 = record { ask = Raise 1000; len = 0 }
+
+abbrev pub two-orders : ℕ → ℕ → Call
+two-orders n m = box-frames (14 ∷ 14 ∷ []) (order-bytes n ++ order-bytes m) (2 * frame-limit)
+
+abbrev pub batch-tunnel : List Call
+batch-tunnel =
+    open-session 7 frame-limit
+    ∷ box-frame open-bytes frame-limit
+    ∷ office-frame welcome-bytes
+    ∷ issue-all (raise-1000 ∷ raise-1000 ∷ raise-1000 ∷ []) [] (2 * 14 + frame-limit)
+    ∷ two-orders 1 2
+    ∷ resend 2 frame-limit
+    ∷ resend 3 frame-limit
+    ∷ two-orders 2 3
+    ∷ office-frame (ack-bytes 3)
+    ∷ office-frame (ack-bytes 2)
+    ∷ []
+
+-- a list keeps to 01's List, and ends settled: three orders issued, three taken, level 3000 at both ends
+pub record Settles (cs : List Call) : Type 0 where
+  pub allowed : Allowed cs
   -- what `settled-equal` of the claim asks for
-  pub settled : office.progress (ends-after tunnel .office) ≡ Settled
-  pub same-session : cab-session (ends-after tunnel .cab) ≡ some (ends-after tunnel .office .session .0)
-  pub issued : ends-after tunnel .office .issued .0 ≡ 3
-  pub taken : ends-after tunnel .cab .taken .0 ≡ 3
-  pub office-level : ends-after tunnel .office .settings .backlight ≡ 3000
-  pub box-level : ends-after tunnel .cab .controller .settings .backlight ≡ 3000
+  pub settled : office.progress (ends-after cs .office) ≡ Settled
+  pub same-session : cab-session (ends-after cs .cab) ≡ some (ends-after cs .office .session .0)
+  pub issued : ends-after cs .office .issued .0 ≡ 3
+  pub taken : ends-after cs .cab .taken .0 ≡ 3
+  pub office-level : ends-after cs .office .settings .backlight ≡ 3000
+  pub box-level : ends-after cs .cab .controller .settings .backlight ≡ 3000
+
+abbrev pub TunnelSettles : Type 0
+TunnelSettles = Settles tunnel
+
+abbrev pub BatchTunnelSettles : Type 0
+BatchTunnelSettles = Settles batch-tunnel

@@ -1,13 +1,10 @@
-// What both ends of the adjustment link hold, and how each begins. Their rules are in specs/, the calls that keep them in
-// cabbox, office, sending, issuing and receiving.
+// What both ends of the adjustment link hold. Their rules are in specs/; the calls that keep them, in starting, cabbox, frame_run, office, sending,
+// issuing, order_batch and receiving.
 use bus::Controller;
 use frame::Change;
 use frame::OrderNumber;
 use frame::SessionId;
 use settings::Settings;
-ghost use mathlib.Core.Path.{_≡_};
-ghost use Rattle.session.specs.Box as box-spec;
-ghost use Rattle.session.specs.Office as spec;
 
 // The cab box. The highest session is the highest opened, or told at a restart; while active, it is the open one, and taken counts its orders run.
 pub struct Cab {
@@ -15,20 +12,6 @@ pub struct Cab {
     pub highest: SessionId,
     pub active: bool,
     pub taken: OrderNumber,
-}
-
-impl Cab {
-    // The box after its host started it: a fresh controller and no session open.
-    pub fn restarted(highest: SessionId) -> Cab
-        ensures { λ r. ⌜ r ≡ box-spec.started (highest .0) ⌝ }
-    {
-        Cab {
-            controller: Controller::fresh(),
-            highest,
-            active: false,
-            taken: OrderNumber(0),
-        }
-    }
 }
 
 // Where the office stands with its session. In document 01's words: never opened, opening, open, over.
@@ -60,26 +43,6 @@ pub struct Office {
     pub window: [Order; WINDOW_LIMIT],
 }
 
-impl Office {
-    // An office never opened, with the settings of a fresh controller until WELCOME tells others.
-    pub fn new() -> Office
-        ensures { λ r. ⌜ r ≡ spec.never ⌝ }
-    {
-        let none = Order {
-            number: OrderNumber(0),
-            change: Change::raise(0),
-        };
-        Office {
-            stage: Stage::Unopened,
-            session: SessionId(0),
-            settings: Settings::fresh(),
-            issued: OrderNumber(0),
-            confirmed: OrderNumber(0),
-            window: [none; WINDOW_LIMIT],
-        }
-    }
-}
-
 // How far the office is with its session: document 01's word. Settled: the box has taken every order issued.
 pub enum Progress {
     Settled,
@@ -91,26 +54,4 @@ pub enum Progress {
 pub struct Ends {
     pub cab: Cab,
     pub office: Office,
-}
-
-pub fn is_awaiting(stage: Stage) -> bool
-    ensures { λ r. ⌜ r ≡ spec.is-awaiting stage ⌝ }
-{
-    match stage {
-        Stage::Unopened => false,
-        Stage::Awaiting => true,
-        Stage::Live => false,
-        Stage::Ended => false,
-    }
-}
-
-pub fn is_live(stage: Stage) -> bool
-    ensures { λ r. ⌜ r ≡ spec.is-live stage ⌝ }
-{
-    match stage {
-        Stage::Unopened => false,
-        Stage::Awaiting => false,
-        Stage::Live => true,
-        Stage::Ended => false,
-    }
 }

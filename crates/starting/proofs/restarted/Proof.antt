@@ -1,7 +1,7 @@
 use borrow.Author.Needs.{needs}
 use Rattle.base.proofs.Tests.{tests}
-use Rattle.session.proofs.Cab.restarted.Statement.{statement}
-use Rattle.session.proofs.Cab.restarted.Tie as tie
+use Rattle.starting.proofs.restarted.Statement.{statement}
+use Rattle.starting.proofs.restarted.Tie as tie
 
 fresh-requires : tie.Need-fresh-requires
 fresh-requires c κs = search needs
