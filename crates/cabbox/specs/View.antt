@@ -12,7 +12,7 @@ use Rattle.cabbox.specs.declared.Turn.{Turn as TurnStruct}
 use Rattle.frame.specs.declared.verdict.Verdict.the-variants.{Accepted}
 use Rattle.session.specs.declared.Cab.{Cab}
 use Rattle.session.specs.Box as box
-use Rattle.session.specs.Turn.{Turn, faulted-by, Realises}
+use Rattle.outcome.specs.Turn.{Turn, faulted-by, Realises}
 
 -- ---- public calls
 

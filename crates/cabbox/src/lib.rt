@@ -26,7 +26,7 @@ ghost use Rattle.judging.specs.View.{fault-of};
 ghost use Rattle.link.specs.View.{encoding-of, frame-limit};
 ghost use Rattle.base.specs.Lent.{overwritten};
 ghost use Rattle.session.specs.Box as spec;
-ghost use Rattle.session.specs.Turn.{refuses};
+ghost use Rattle.outcome.specs.Turn.{refuses};
 ghost use Rattle.cabbox.specs.View as view;
 
 // What a frame in gives. A frame of len bytes was written at the start of the output.

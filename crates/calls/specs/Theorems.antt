@@ -1,17 +1,22 @@
 -- Nothing of demand 3's list is left out.
-use Prim.Native.Nat.{ℕ}
+use Prim.Native.Nat.{ℕ, _<_}
 use mathlib.Core.Path.{_≡_}
 use mathlib.Core.List.{List}
-use Rattle.session.specs.Calls.{Call}
+use lib.ListN.{length}
+use Rattle.outcome.specs.declared.BatchOrder.{BatchOrder}
+use Rattle.outcome.specs.declared.OrderBatch.{OrderBatch}
+use Rattle.outcome.specs.Batch.{batch-limit, orders-of}
+use Rattle.session.specs.Calls.{Call, issue-all, box-frames}
 use Rattle.calls.specs.declared.Call.{Call as CodeCall}
 use Rattle.calls.specs.View.{call-of}
 
--- a call of the code that is the call c
-pub record AsCode (c : Call) : Type 0 where
-  pub call : CodeCall
-  pub bytes : List ℕ
-  pub room : ℕ
-  pub is-c : call-of call bytes room ≡ c
+-- A call of the code that is this one. Of a batch with more orders than a batch may have, which is refused whatever they are, it is one with as many.
+pub data AsCode : Call → Type 0 where
+  single : (call : CodeCall) (bytes : List ℕ) (room : ℕ) → AsCode (call-of call bytes room)
+  batch : (b : OrderBatch) (bytes : List ℕ) (room : ℕ) → length (b .orders) ≡ batch-limit → AsCode (issue-all (orders-of b) bytes room)
+  too-many : (b : OrderBatch) (orders : List BatchOrder) (bytes : List ℕ) (room : ℕ) → length (b .orders) ≡ batch-limit →
+      batch-limit < length orders → length (orders-of b) ≡ length orders → AsCode (issue-all orders bytes room)
+  frames : (lengths bytes : List ℕ) (room : ℕ) → AsCode (box-frames lengths bytes room)
 
 -- every call of demand 3's list is one of the code
 abbrev pub EveryCall : Type 0

@@ -1,13 +1,16 @@
 -- The code's calls as calls of demand 3's list, and what running one gives.
 use Prim.Native.Nat.{ℕ}
-use mathlib.Core.List.{List}
+use mathlib.Core.Path.{_≡_}
+use mathlib.Core.List.{List, [], _∷_, map}
+use mathlib.Core.Option.{none}
+use Rattle.base.specs.Lent.{overwritten}
 use Rattle.frame.specs.View.{asked-as, refusal-of}
 use Rattle.frame.specs.declared.verdict.Verdict.{Verdict}
 use Rattle.session.specs.declared.Cab.{Cab}
 use Rattle.session.specs.declared.Ends.{Ends}
 use Rattle.session.specs.declared.Office.{Office}
+use Rattle.outcome.specs.Batch.{Outcome, bytes-of-parts, report}
 use Rattle.session.specs.Calls.{Call, restart, box-frame, open-session, issue, resend, reopen, office-frame}
-use Rattle.session.specs.Turn.{Turn, Realises}
 use Rattle.calls.specs.declared.Answered.{Answered}
 use Rattle.calls.specs.declared.Call.{Call as CodeCall}
 use Rattle.calls.specs.declared.Call.the-variants.{Restart, BoxFrame, OpenSession, Issue, Resend, Reopen, OfficeFrame}
@@ -22,9 +25,12 @@ call-of (Resend number) bytes room = resend (number .0) room
 call-of Reopen bytes room = reopen room
 call-of OfficeFrame bytes room = office-frame bytes
 
--- the turn fixes what a call returned, and what it made of its lent output: both ends, the refusal's number, the length and every byte
-abbrev pub Runs : Turn Ends → Answered → List ℕ → List ℕ → Type 0
-Runs t r before after = Realises t (r .ends) (refusal-of (r .verdict)) (r .len) before after
+-- the outcome of a single call fixes what was returned, and what was made of the lent output: both ends, the refusal's number, the length and every byte
+pub record Runs (t : Outcome Ends) (r : Answered) (before after : List ℕ) : Type 0 where
+  pub state-is : r .ends ≡ t .state
+  pub whole-is : t .refusal ≡ none
+  pub part-is : map report (t .parts) ≡ record { refusal = refusal-of (r .verdict); len = r .len } ∷ []
+  pub output-is : after ≡ overwritten (bytes-of-parts (t .parts)) before
 
 abbrev pub answered : Cab → Office → Verdict → ℕ → Answered
 answered cab office verdict len = record { ends = record { cab = cab; office = office }; verdict = verdict; len = len }

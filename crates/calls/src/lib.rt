@@ -1,4 +1,4 @@
-// Any call of demand 3's list, run at the code's own box and office.
+// Any single call of demand 3's list, run at the code's own box and office. Its batches and runs of frames are in batch_calls.
 use frame::Ask;
 use frame::OrderNumber;
 use frame::SessionId;
@@ -65,7 +65,12 @@ pub fn run(ends: Ends, call: Call, bytes: &[u8], out: &mut [u8]) -> Answered
     ensures { λ r. ⌜ view.Runs (ends-rules ends (view.call-of call (now (bytes .entry)) (length (now (out .entry))))) r (now (out .entry)) (now (out .exit)) ⌝ }
 {
     match call {
-        Call::Restart(session) => after(Cab::restarted(session), ends.office, Verdict::Accepted, 0),
+        Call::Restart(session) => after(
+            starting::restarted(session),
+            ends.office,
+            Verdict::Accepted,
+            0,
+        ),
         Call::BoxFrame => at_cab(ends.office, cabbox::frame_in(ends.cab, bytes, &mut *out)),
         Call::OpenSession(session) => at_office(
             ends.cab,

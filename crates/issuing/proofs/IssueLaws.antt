@@ -11,7 +11,7 @@ use Rattle.frame.specs.Frame.{Change, too-long, order}
 use Rattle.link.specs.View.{frame-limit}
 use Rattle.session.specs.declared.Office.{Office}
 use Rattle.session.specs.Office.{is-live, with-order, issue-refusal, issue-unless, issue}
-use Rattle.session.specs.Turn.{window-limit, order-limit}
+use Rattle.session.specs.Limits.{window-limit, order-limit}
 use Rattle.office.proofs.Turns.{Decided, no, yes}
 
 abbrev pub Issuable : Office → Change → ℕ → Type 0

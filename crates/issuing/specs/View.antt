@@ -3,7 +3,7 @@ use Prim.Native.Nat.{ℕ, _-_}
 use mathlib.Core.Bool.{cond}
 use mathlib.Core.Option.{Option, none, some}
 use lib.Dec.{eqb, leb}
-use Rattle.session.specs.Turn.{window-limit, order-limit}
+use Rattle.session.specs.Limits.{window-limit, order-limit}
 
 -- the last two reasons of `issue-refusal`
 abbrev pub count-refusal : ℕ → ℕ → Option ℕ

@@ -13,7 +13,7 @@ use session::Office;
 use session::Order;
 use session::Stage;
 use session::WINDOW_LIMIT;
-use session::is_live;
+use starting::is_live;
 ghost use mathlib.Core.Path.{_≡_};
 ghost use mathlib.Core.Bool.{false};
 ghost use mathlib.Core.Option.{none, Option·map};
@@ -24,7 +24,7 @@ ghost use Rattle.base.specs.Refusal.{plain};
 ghost use Rattle.frame.specs.View.{asked, asked-as, change-of, refusal-of};
 ghost use Rattle.link.specs.View.{frame-limit};
 ghost use Rattle.session.specs.Office as spec;
-ghost use Rattle.session.specs.Turn.{order-limit};
+ghost use Rattle.session.specs.Limits.{order-limit};
 ghost use Rattle.office.specs.View.{Gives};
 ghost use Rattle.issuing.specs.View as view;
 

@@ -17,7 +17,7 @@ use Rattle.link.specs.View.{frame-limit, encoding-of, sent-bytes, sent-refusal,
 use Rattle.link.specs.declared.encoded.Sent.{Sent}
 use Rattle.link.proofs.FrameLaws.{frame-fits}
 use Rattle.session.specs.declared.Office.{Office}
-use Rattle.session.specs.Turn.{Turn, wrote, refused}
+use Rattle.outcome.specs.Turn.{Turn, wrote, refused}
 use Rattle.office.specs.declared.answer.Answered.{Answered}
 use Rattle.office.specs.View.{Gives, accepted, sent}
 

@@ -9,7 +9,7 @@ use Rattle.frame.specs.Frame.{Frame}
 use Rattle.frame.specs.View.{refusal-of}
 use Rattle.link.specs.View.{encoding-of}
 use Rattle.session.specs.declared.Office.{Office}
-use Rattle.session.specs.Turn.{Turn, Realises, refused}
+use Rattle.outcome.specs.Turn.{Turn, Realises, refused}
 use Rattle.office.specs.declared.answer.Answered.{Answered}
 
 -- the turn fixes what a call returned, and what it made of its lent output: the office, the refusal's number, the length and every byte

@@ -8,7 +8,7 @@ use Rattle.judging.specs.Decoding.{Decoded, a-fault, a-frame}
 use Rattle.judging.specs.View.{fault-in, frame-read}
 use Rattle.frame.specs.declared.verdict.Verdict.the-variants.{Accepted, Refused}
 use Rattle.session.specs.declared.Office.{Office}
-use Rattle.session.specs.Turn.{Turn, silent, faulted}
+use Rattle.outcome.specs.Turn.{Turn, silent, faulted}
 use Rattle.session.specs.Office as office
 use Rattle.receiving.specs.declared.Received.{Received}
 use Rattle.receiving.specs.View.{Takes, judged}

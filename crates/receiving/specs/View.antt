@@ -11,7 +11,7 @@ use Rattle.session.specs.declared.Office.{Office}
 use Rattle.session.specs.declared.Stage.the-variants.{Live}
 use Rattle.session.specs.Office as office
 use Rattle.session.specs.Office.{office-of}
-use Rattle.session.specs.Turn.{Turn, faulted}
+use Rattle.outcome.specs.Turn.{Turn, faulted}
 use Rattle.receiving.specs.declared.Received.{Received}
 
 -- the turn fixes what a call returned: the office and what a refusal tells. Nothing is lent.

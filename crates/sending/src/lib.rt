@@ -11,8 +11,9 @@ use session::Office;
 use session::Order;
 use session::Stage;
 use session::WINDOW_LIMIT;
-use session::is_awaiting;
-use session::is_live;
+use starting::is_awaiting;
+use starting::is_live;
+use starting::never_opened;
 ghost use mathlib.Core.Path.{_≡_};
 ghost use mathlib.Core.Option.{some};
 ghost use Prim.Native.Nat.{_≤_};
@@ -21,7 +22,7 @@ ghost use Rattle.frame.specs.Frame as frames;
 ghost use Rattle.frame.specs.View.{asked, meaning, refusal-of};
 ghost use Rattle.link.specs.View.{frame-limit};
 ghost use Rattle.session.specs.Office as spec;
-ghost use Rattle.session.specs.Turn as turn;
+ghost use Rattle.outcome.specs.Turn as turn;
 ghost use Rattle.office.specs.View.{Gives};
 ghost use Rattle.sending.specs.View as view;
 
@@ -47,7 +48,7 @@ fn open_refusal(office: Office, session: SessionId, room: usize) -> Verdict
 fn awaiting(session: SessionId) -> Office
     ensures { λ r. ⌜ r ≡ view.awaiting (session .0) ⌝ }
 {
-    let never = Office::new();
+    let never = never_opened();
     let settings = never.settings;
     let issued = never.issued;
     let confirmed = never.confirmed;

@@ -7,7 +7,7 @@ use Rattle.order.specs.Apply.{apply}
 use Rattle.session.specs.declared.Office.{Office}
 use Rattle.session.specs.declared.Stage.the-variants.{Live}
 use Rattle.session.specs.Office.{office-of}
-use Rattle.session.specs.Turn.{window-limit}
+use Rattle.session.specs.Limits.{window-limit}
 use borrow.Author.Needs.{needs}
 use Rattle.issuing.proofs.with_order.Statement.{statement}
 use Rattle.issuing.proofs.with_order.Tie as tie

@@ -5,7 +5,7 @@ use lib.ListN.{length}
 use Rattle.frame.specs.View.{asked}
 use Rattle.session.specs.declared.Order.{Order}
 use Rattle.session.specs.Office.{no-order}
-use Rattle.session.specs.Turn.{window-limit}
+use Rattle.session.specs.Limits.{window-limit}
 use Rattle.sending.proofs.Decisions.{order-there}
 use borrow.Author.Needs.{needs}
 use Rattle.sending.proofs.kept_change.Statement.{statement}
