@@ -25,7 +25,7 @@ struct Station {
 
 fn started(highest: u32) -> Station {
     Station {
-        cab: Cab::restarted(SessionId(highest)),
+        cab: starting::restarted(SessionId(highest)),
         receiver: Receiver::new(),
         refused: 0,
         goes_on: true,

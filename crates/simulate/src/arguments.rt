@@ -22,7 +22,8 @@ pub(crate) struct Given {
     pub end: usize,
 }
 
-enum Ending {
+// How a line ends: in `into N`, or not; or in something wrong.
+pub(crate) enum Ending {
     Of(Lent),
     Wrong(Fault),
 }
@@ -92,7 +93,7 @@ fn into(s: &[u8]) -> Ending {
     }
 }
 
-fn lent_by(s: &[u8], otherwise: Fault) -> Ending {
+pub(crate) fn lent_by(s: &[u8], otherwise: Fault) -> Ending {
     if s.len() == 0 {
         return Ending::Of(Lent::Room);
     }

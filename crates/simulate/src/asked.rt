@@ -91,8 +91,20 @@ pub(crate) enum Task {
     Stream(Holder, usize),
 }
 
+// What a batch of orders, or a run of frames, is made of.
+pub(crate) enum Several {
+    Orders,
+    Frames,
+    // Frames that the office wrote.
+    Carried,
+    // Lengths and bytes apart.
+    Cut,
+}
+
 pub(crate) enum Action {
     Call(Call),
+    // The arguments stand in the line.
+    Several(Several),
     Task(Task),
     Say(Said),
 }

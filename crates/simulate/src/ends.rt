@@ -1,4 +1,4 @@
-// The calls at box and office.
+// The single calls at box and office.
 use crate::asked;
 use crate::asked::Asked;
 use crate::buffers::Memory;
@@ -59,7 +59,7 @@ fn caller(call: Call) -> End {
     }
 }
 
-fn kept(mut notes: Notes, end: End, frame: &[u8], memory: &mut Memory) -> Notes {
+pub(crate) fn kept(mut notes: Notes, end: End, frame: &[u8], memory: &mut Memory) -> Notes {
     if frame.len() == 0 {
         return notes;
     }
@@ -77,7 +77,7 @@ fn kept(mut notes: Notes, end: End, frame: &[u8], memory: &mut Memory) -> Notes 
 }
 
 // The notes after a call, where the box has this session open.
-fn noted(mut notes: Notes, active: bool, session: u32, gathered: usize) -> Notes {
+pub(crate) fn noted(mut notes: Notes, active: bool, session: u32, gathered: usize) -> Notes {
     notes.gathered = gathered;
     if !active {
         return notes;

@@ -68,7 +68,7 @@ pub(crate) fn told(out: &mut Output, at: usize, n: u64, offset: u64) -> usize {
     let number = [n];
     let place = [offset];
     let row =
-        b"|output too short|too much data, or a frame that cannot be wrapped|ID over 127||no session open|not the open session, nor one to open|an order before this one is missing|8 orders unanswered|no order number left|office not open|reserved response, or wrong sum|reply not complete|nothing to send again|ends inside the field at _, or before it|unexpected tag of the field at _|wrong length of the field at _|contents not allowed in the field at _|bytes after the end, from _ on|meant for the other end, by the field at _";
+        b"|output too short|too much data, more than 8 at once, lengths that do not fit the bytes, or a frame that cannot be wrapped|ID over 127||no session open|not the open session, nor one to open|an order before this one is missing|8 orders unanswered|no order number left|office not open|reserved response, or wrong sum|reply not complete|nothing to send again|ends inside the field at _, or before it|unexpected tag of the field at _|wrong length of the field at _|contents not allowed in the field at _|bytes after the end, from _ on|meant for the other end, by the field at _";
     let named = print::with(&mut *out, at, b"_: ", &number);
     let said = print::with(&mut *out, named, print::nth(row, n as usize), &place);
     print::end_line(&mut *out, said)

@@ -10,6 +10,7 @@ use crate::asked::Heard;
 use crate::asked::Holder;
 use crate::asked::Made;
 use crate::asked::Said;
+use crate::asked::Several;
 use crate::asked::Task;
 use crate::asked::Told;
 use crate::buffers::Memory;
@@ -69,7 +70,31 @@ fn with_number(
         1 => numbered(OfficeCall::Lower, u16::MAX as u64, s),
         2 => numbered(OfficeCall::Resend, u16::MAX as u64, s),
         3 => numbered(OfficeCall::Open, u32::MAX as u64, s),
-        _ => of_stream(name, s, box_frames, office_frames, &mut *memory),
+        _ => several(name, s, box_frames, office_frames, &mut *memory),
+    }
+}
+
+// The batches and runs, whose arguments are read when they are done.
+fn several(
+    name: &[u8],
+    s: &[u8],
+    box_frames: u64,
+    office_frames: u64,
+    memory: &mut Memory,
+) -> Asked {
+    let n = which(name, b"issue-all box-all to-box-all box-cut");
+    if n < 4 {
+        return asked::plain(Action::Several(nth_several(n)));
+    }
+    of_stream(name, s, box_frames, office_frames, &mut *memory)
+}
+
+fn nth_several(n: usize) -> Several {
+    match n {
+        0 => Several::Orders,
+        1 => Several::Frames,
+        2 => Several::Carried,
+        _ => Several::Cut,
     }
 }
 
@@ -181,18 +206,24 @@ fn without_bytes(name: &[u8], s: &[u8]) -> Asked {
 }
 
 fn told(name: &[u8], s: &[u8]) -> Asked {
-    match which(
-        name,
-        b"show describe word held box-held office-held dropped",
-    ) {
-        0 => arguments::ended(Action::Say(Said::Told(Told::Show)), s),
-        1 => arguments::ended(Action::Say(Said::Told(Told::Describe)), s),
-        2 => arguments::ended(Action::Say(Said::Told(Told::Progress)), s),
-        3 => registers_named::held(Holder::Bench, s),
-        4 => registers_named::held(Holder::Box, s),
-        5 => registers_named::held(Holder::Office, s),
-        6 => arguments::ended(Action::Say(Said::Told(Told::Dropped)), s),
+    let n = which(name, b"show describe word dropped");
+    if n < 4 {
+        return arguments::ended(Action::Say(Said::Told(nth_told(n))), s);
+    }
+    match which(name, b"held box-held office-held") {
+        0 => registers_named::held(Holder::Bench, s),
+        1 => registers_named::held(Holder::Box, s),
+        2 => registers_named::held(Holder::Office, s),
         _ => asked::wrong(Fault::NotACall),
+    }
+}
+
+fn nth_told(n: usize) -> Told {
+    match n {
+        0 => Told::Show,
+        1 => Told::Describe,
+        2 => Told::Progress,
+        _ => Told::Dropped,
     }
 }
 

@@ -2,6 +2,7 @@
 // a frame carried from one end to the other. It prints what each call answered, and whether that is what the line expects.
 mod arguments;
 mod asked;
+mod batches;
 mod bench;
 mod buffers;
 mod carried;
@@ -17,6 +18,7 @@ mod packets;
 mod perform;
 mod print;
 mod registers_named;
+mod several;
 mod show;
 mod streamed;
 mod streams;
@@ -82,6 +84,20 @@ fn read(
         match action {
             Action::Call(call) => {
                 let done = ends::call(world.ends, begun, call, asked, &mut *memory, &mut *out);
+                let after = done.ends;
+                let told = done.notes;
+                world.ends = after;
+                world.notes = told;
+            }
+            Action::Several(several) => {
+                let done = batches::perform(
+                    world.ends,
+                    begun,
+                    several,
+                    line,
+                    &mut *memory,
+                    &mut *out,
+                );
                 let after = done.ends;
                 let told = done.notes;
                 world.ends = after;

@@ -2,9 +2,7 @@
 use bus::Controller;
 use frame::SessionId;
 use link::FRAME_LIMIT;
-use session::Cab;
 use session::Ends;
-use session::Office;
 use wrapping::Receiver;
 
 // The longest output that `room` lends.
@@ -52,8 +50,8 @@ pub(crate) struct World {
 pub(crate) fn fresh(notes: Notes) -> World {
     World {
         ends: Ends {
-            cab: Cab::restarted(SessionId(0)),
-            office: Office::new(),
+            cab: starting::restarted(SessionId(0)),
+            office: starting::never_opened(),
         },
         bench: Controller::fresh(),
         receivers: Receivers {

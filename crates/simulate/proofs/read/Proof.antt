@@ -42,6 +42,12 @@ perform-requires c κs = search needs
 enum-known-action-3 : tie.Need-enum-known-action-3 Inv-loop μ-loop
 enum-known-action-3 c = search needs
 
+perform-requires-2 : tie.Need-perform-requires-2 Inv-loop μ-loop
+perform-requires-2 c κs = search needs
+
+enum-known-action-4 : tie.Need-enum-known-action-4 Inv-loop μ-loop
+enum-known-action-4 c = search needs
+
 say-requires : tie.Need-say-requires Inv-loop μ-loop
 say-requires c κs = search needs
 
@@ -80,6 +86,8 @@ read-spec =
     enum-known-action-2
     perform-requires
     enum-known-action-3
+    perform-requires-2
+    enum-known-action-4
     say-requires
     ended-requires
     wrapping-add-usize-requires

@@ -1,0 +1,89 @@
+use Prim.Native.Nat.{_-_}
+use borrow.Author.Needs.{needs}
+use Rattle.simulate.proofs.several.carried.Statement.{statement}
+use Rattle.simulate.proofs.several.carried.Tie as tie
+
+abbrev Inv-loop : tie.InvT-loop
+Inv-loop s written memory₀ frames₀ at₀ memory frames at = Unit {0}
+
+abbrev μ-loop : tie.MeasureT-loop
+μ-loop s written memory₀ frames₀ at₀ memory frames at = 18446744073709551616 - at
+
+no-frames-requires : tie.Need-no-frames-requires Inv-loop μ-loop
+no-frames-requires c κs = search needs
+
+loop-holds : tie.Need-loop-holds Inv-loop μ-loop
+loop-holds c = search needs
+
+rest-requires : tie.Need-rest-requires Inv-loop μ-loop
+rest-requires c κs = search needs
+
+empty-requires : tie.Need-empty-requires Inv-loop μ-loop
+empty-requires c κs = search needs
+
+returns : tie.Need-returns Inv-loop μ-loop
+returns c = search needs
+
+word-requires : tie.Need-word-requires Inv-loop μ-loop
+word-requires c κs = search needs
+
+numbered-requires : tie.Need-numbered-requires Inv-loop μ-loop
+numbered-requires c κs = search needs
+
+enum-known-frame : tie.Need-enum-known-frame Inv-loop μ-loop
+enum-known-frame c = search needs
+
+after-word-requires : tie.Need-after-word-requires Inv-loop μ-loop
+after-word-requires c κs = search needs
+
+with-kept-requires : tie.Need-with-kept-requires Inv-loop μ-loop
+with-kept-requires c κs = search needs
+
+place-requires : tie.Need-place-requires Inv-loop μ-loop
+place-requires c κs = search needs
+
+returns-2 : tie.Need-returns-2 Inv-loop μ-loop
+returns-2 c = search needs
+
+loop-less : tie.Need-loop-less Inv-loop μ-loop
+loop-less c = search needs
+
+loop-again : tie.Need-loop-again Inv-loop μ-loop
+loop-again c = search needs
+
+enum-known-fault : tie.Need-enum-known-fault Inv-loop μ-loop
+enum-known-fault c = search needs
+
+wrong-frame-requires : tie.Need-wrong-frame-requires Inv-loop μ-loop
+wrong-frame-requires c κs = search needs
+
+returns-3 : tie.Need-returns-3 Inv-loop μ-loop
+returns-3 c = search needs
+
+returns-4 : tie.Need-returns-4 Inv-loop μ-loop
+returns-4 c = search needs
+
+pub carried-spec : {M : Type 1} → statement M
+carried-spec =
+    tie.close
+    (tie.spec
+    Inv-loop
+    μ-loop
+    no-frames-requires
+    loop-holds
+    rest-requires
+    empty-requires
+    returns
+    word-requires
+    numbered-requires
+    enum-known-frame
+    after-word-requires
+    with-kept-requires
+    place-requires
+    returns-2
+    loop-less
+    loop-again
+    enum-known-fault
+    wrong-frame-requires
+    returns-3
+    returns-4)
