@@ -1,7 +1,7 @@
 //! The cab box.
 
 use crate::controller::Controller;
-use crate::link::{End, Frame, LONGEST_FRAME, Order};
+use crate::link::{End, Frame, LONGEST_FRAME, MOST_AT_ONCE, Order};
 use crate::refusal::Refusal;
 
 #[derive(Clone, Copy, Debug, PartialEq, Eq)]
@@ -72,6 +72,24 @@ impl Cab {
         }
     }
 
+    /// Takes a run of frames, joined, each with its length beside it. Either the whole is refused, and
+    /// then nothing is written, or each frame has its own answer.
+    pub fn frames_in(
+        &mut self,
+        lengths: &[u64],
+        bytes: &[u8],
+        room: usize,
+    ) -> Result<Vec<Result<Vec<u8>, Refused>>, Refusal> {
+        let frames = cut(lengths, bytes)?;
+        if room < LONGEST_FRAME * frames.len() {
+            return Err(Refusal::ShortOutput);
+        }
+        let answers = frames
+            .into_iter()
+            .map(|frame| self.frame_in(frame, LONGEST_FRAME));
+        Ok(answers.collect())
+    }
+
     fn opening(&mut self, session: u32) -> Result<Frame, Refusal> {
         if session > self.highest {
             self.highest = session;
@@ -110,6 +128,23 @@ impl Cab {
             count: open.taken,
         })
     }
+}
+
+/// The frames of a run, if their lengths are those of these bytes.
+pub fn cut<'a>(lengths: &[u64], bytes: &'a [u8]) -> Result<Vec<&'a [u8]>, Refusal> {
+    let sum = lengths
+        .iter()
+        .try_fold(0u64, |sum, length| sum.checked_add(*length));
+    if lengths.len() > MOST_AT_ONCE || sum != Some(bytes.len() as u64) {
+        return Err(Refusal::TooMuchData);
+    }
+    let mut rest = bytes;
+    let frames = lengths.iter().map(|length| {
+        let (frame, behind) = rest.split_at(*length as usize);
+        rest = behind;
+        frame
+    });
+    Ok(frames.collect())
 }
 
 fn refuse(session: u32, refusal: Refusal) -> Vec<u8> {

@@ -7,6 +7,8 @@ use crate::settings::Settings;
 /// The longest frame (WELCOME), which is the output box and office ask to be lent.
 pub const LONGEST_FRAME: usize = 37;
 pub const MOST_ORDER_DATA: usize = 16;
+/// The most orders of a batch, and the most frames of a run.
+pub const MOST_AT_ONCE: usize = 8;
 /// The bytes of a field before its contents: tag and length.
 pub const HEAD: usize = 3;
 

@@ -5,7 +5,7 @@ use std::fmt;
 
 use crate::controller::Controller;
 use crate::fault::Fault;
-use crate::link::{End, Frame, LONGEST_FRAME, MOST_ORDER_DATA, Order};
+use crate::link::{End, Frame, LONGEST_FRAME, MOST_AT_ONCE, MOST_ORDER_DATA, Order};
 use crate::refusal::Refusal;
 use crate::settings::Settings;
 
@@ -115,6 +115,23 @@ impl Office {
         running.progress.issued = number;
         running.unanswered.push_back(order.clone());
         Ok(running.order_frame(number, order))
+    }
+
+    /// Issues all of these orders or, if one would be refused, none; a frame for each.
+    pub fn issue_all(&mut self, orders: &[Order], room: usize) -> Result<Vec<Vec<u8>>, Refusal> {
+        if orders.len() > MOST_AT_ONCE {
+            return Err(Refusal::TooMuchData);
+        }
+        let mut tried = self.clone();
+        let mut left = room;
+        let mut frames = Vec::with_capacity(orders.len());
+        for order in orders {
+            let frame = tried.issue(order.clone(), left)?;
+            left -= frame.len();
+            frames.push(frame);
+        }
+        *self = tried;
+        Ok(frames)
     }
 
     pub fn send_again(&self, number: u16, room: usize) -> Result<Vec<u8>, Refusal> {

@@ -4,6 +4,7 @@ mod answer;
 mod describe;
 mod explain;
 mod log;
+mod many;
 mod parse;
 mod receive;
 mod show;
@@ -16,7 +17,7 @@ use crate::refusal::Refusal;
 use crate::stream::{Receiver, wrap};
 use parse::{Call, parse};
 
-pub use answer::{Answer, Heard, Hex};
+pub use answer::{Answer, Heard, Hex, Judged};
 pub use log::Log;
 pub use parse::ParseError;
 
@@ -132,6 +133,7 @@ impl Simulation {
             }
             Call::ToBox(frame) => self.frame_to_box(&frame),
             Call::ToOffice(frame) => self.frame_to_office(&frame),
+            Call::Many(many, lent) => self.many(&many, lent),
             Call::Bus(bytes) => {
                 Answer::Bus(bytes.into_iter().map(|byte| self.bench.exchange(byte)).collect())
             }
@@ -158,9 +160,17 @@ impl Simulation {
 
     fn frame_to_box(&mut self, frame: &[u8]) -> Answer {
         let result = self.cab.frame_in(frame, self.room);
+        self.note_highest();
+        self.box_answered(result)
+    }
+
+    fn note_highest(&mut self) {
         if let Some(open) = self.cab.open() {
             self.highest_opened = self.highest_opened.max(open.session);
         }
+    }
+
+    fn box_answered(&mut self, result: Result<Vec<u8>, Refused>) -> Answer {
         if let Ok(frame)
         | Err(Refused {
             frame: Some(frame), ..

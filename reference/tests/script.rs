@@ -473,7 +473,7 @@ fn explain_every_refusal() {
     let mut simulation = Simulation::new();
     for expected in [
         "1: output too short",
-        "2: too much data, or a frame that cannot be wrapped",
+        "2: too much data, more than 8 at once, lengths that do not fit the bytes, or a frame that cannot be wrapped",
         "3: ID over 127",
         "5: no session open",
         "6: not the open session, nor one to open",

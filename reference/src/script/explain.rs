@@ -6,7 +6,9 @@ use crate::refusal::Refusal;
 pub fn words(refusal: Refusal) -> String {
     match refusal {
         Refusal::ShortOutput => "output too short",
-        Refusal::TooMuchData => "too much data, or a frame that cannot be wrapped",
+        Refusal::TooMuchData => {
+            "too much data, more than 8 at once, lengths that do not fit the bytes, or a frame that cannot be wrapped"
+        },
         Refusal::IdTooHigh => "ID over 127",
         Refusal::NoneOpen => "no session open",
         Refusal::WrongSession => "not the open session, nor one to open",

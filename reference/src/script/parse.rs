@@ -10,6 +10,7 @@ use crate::refusal::Refusal;
 
 const LONGEST_LINE: usize = 4096;
 const MOST_ROOM: u64 = 512;
+const MOST_LENT: u64 = 516;
 const MOST_WRAP_ROOM: u64 = 128;
 const LONGEST_PIECE: u64 = 128;
 
@@ -22,6 +23,7 @@ pub enum Call {
     Resend(u16),
     ToBox(Vec<u8>),
     ToOffice(Vec<u8>),
+    Many(Many, Option<usize>),
     Bus(Vec<u8>),
     Packet { way: Way, id: u8, data: Vec<u8> },
     Reply { asked: Way, bytes: Vec<u8> },
@@ -32,6 +34,25 @@ pub enum Call {
     Explain(Refusal),
     Show,
     Describe,
+}
+
+/// What is done in one call; beside it stands the output that the line itself lends, if it does.
+pub enum Many {
+    Issue(Vec<Order>),
+    /// Frames, joined, and the length of each.
+    ToBox {
+        lengths: Vec<u64>,
+        bytes: Vec<u8>,
+    },
+}
+
+impl Many {
+    fn frames(frames: Vec<Vec<u8>>) -> Many {
+        Many::ToBox {
+            lengths: frames.iter().map(|frame| frame.len() as u64).collect(),
+            bytes: frames.concat(),
+        }
+    }
 }
 
 /// Whose receiver.
@@ -90,17 +111,16 @@ pub fn parse(line: &[u8], from_cab: &Log, from_office: &Log) -> Result<Option<Ca
         b"restart" => Call::Restart(Some(words.number_u32()?)),
         b"open" => Call::Open(words.number_u32()?),
         b"reopen" => Call::Reopen,
-        b"raise" => Call::Issue(Order::Raise(words.number_u16()?)),
-        b"lower" => Call::Issue(Order::Lower(words.number_u16()?)),
-        b"command" => Call::Issue(Order::Command {
-            command: words.byte()?,
-            data: words.bytes()?,
-        }),
+        b"raise" | b"lower" | b"command" => Call::Issue(words.order(first)?),
+        b"issue-all" => words.many(Words::orders)?,
         b"resend" => Call::Resend(words.number_u16()?),
         b"to-box" => Call::ToBox(words.frame(from_office)?),
         b"to-office" => Call::ToOffice(words.frame(from_cab)?),
         b"box" => Call::ToBox(words.bytes()?),
         b"office" => Call::ToOffice(words.bytes()?),
+        b"box-all" => words.many(Words::run)?,
+        b"to-box-all" => words.many(|words| words.written_run(from_office))?,
+        b"box-cut" => words.many(Words::cut_run)?,
         b"bus" => Call::Bus(words.bytes()?),
         b"packet" => Call::Packet {
             way: words.way()?,
@@ -126,9 +146,7 @@ pub fn parse(line: &[u8], from_cab: &Log, from_office: &Log) -> Result<Option<Ca
         b"describe" => Call::Describe,
         _ => return Err(ParseError::NotACall),
     };
-    if !words.is_empty() {
-        return Err(ParseError::TooManyWords);
-    }
+    words.end()?;
     Ok(Some(call))
 }
 
@@ -150,34 +168,121 @@ impl<'a> Words<'a> {
         self.0.is_empty()
     }
 
-    /// A number of any length; those past 64 bits come out as the largest.
-    fn any_number(&mut self) -> Result<u64, ParseError> {
+    fn end(&self) -> Result<(), ParseError> {
+        if !self.is_empty() {
+            return Err(ParseError::TooManyWords);
+        }
+        Ok(())
+    }
+
+    /// A number of any length; none for those past 64 bits.
+    fn any_number(&mut self) -> Result<Option<u64>, ParseError> {
         let word = self.next().ok_or(ParseError::NotANumber)?;
-        word.iter().try_fold(0u64, |number, byte| match byte {
-            b'0'..=b'9' => Ok(number.saturating_mul(10).saturating_add(u64::from(byte - b'0'))),
-            _ => Err(ParseError::NotANumber),
-        })
+        if !word.iter().all(u8::is_ascii_digit) {
+            return Err(ParseError::NotANumber);
+        }
+        Ok(word.iter().try_fold(0u64, |number, byte| {
+            number.checked_mul(10)?.checked_add(u64::from(byte - b'0'))
+        }))
     }
 
     fn number(&mut self, most: u64) -> Result<u64, ParseError> {
         let number = self.any_number()?;
-        if number > most {
-            return Err(ParseError::OutOfRange);
-        }
-        Ok(number)
+        number
+            .filter(|number| *number <= most)
+            .ok_or(ParseError::OutOfRange)
     }
 
     fn number_u32(&mut self) -> Result<u32, ParseError> {
-        u32::try_from(self.any_number()?).map_err(|_| ParseError::OutOfRange)
+        Ok(self.number(u32::MAX.into())? as u32)
     }
 
     fn number_u16(&mut self) -> Result<u16, ParseError> {
-        u16::try_from(self.any_number()?).map_err(|_| ParseError::OutOfRange)
+        Ok(self.number(u16::MAX.into())? as u16)
     }
 
     fn frame(&mut self, log: &Log) -> Result<Vec<u8>, ParseError> {
         let index = self.any_number()?;
-        Ok(log.get(index).ok_or(ParseError::NoSuchFrame)?.to_vec())
+        let frame = index.and_then(|index| log.get(index));
+        Ok(frame.ok_or(ParseError::NoSuchFrame)?.to_vec())
+    }
+
+    /// An order, of which the first word was taken already.
+    fn order(&mut self, first: &[u8]) -> Result<Order, ParseError> {
+        Ok(match first {
+            b"raise" => Order::Raise(self.number_u16()?),
+            b"lower" => Order::Lower(self.number_u16()?),
+            b"command" => Order::Command {
+                command: self.byte()?,
+                data: self.bytes()?,
+            },
+            _ => return Err(ParseError::NotACall),
+        })
+    }
+
+    /// What the words before `into` say, and the length behind it.
+    fn many(&mut self, said: impl FnOnce(Words<'a>) -> Result<Many, ParseError>) -> Result<Call, ParseError> {
+        let many = said(self.before(b"into"))?;
+        let lent = match self.next() {
+            Some(_) => Some(self.number(MOST_LENT)? as usize),
+            None => None,
+        };
+        Ok(Call::Many(many, lent))
+    }
+
+    /// The words before this one, or all that are left.
+    fn before(&mut self, word: &[u8]) -> Words<'a> {
+        let end = self.0.iter().position(|other| *other == word);
+        Words(self.0.drain(..end.unwrap_or(self.0.len())).collect())
+    }
+
+    /// What stands between slashes; without any word there is nothing, not even something empty.
+    fn items(mut self) -> Vec<Words<'a>> {
+        let mut items = Vec::new();
+        if self.is_empty() {
+            return items;
+        }
+        loop {
+            items.push(self.before(b"/"));
+            if self.next().is_none() {
+                return items;
+            }
+        }
+    }
+
+    fn orders(self) -> Result<Many, ParseError> {
+        let orders = self.items().into_iter().map(|mut item| {
+            let first = item.next().ok_or(ParseError::NotACall)?;
+            let order = item.order(first)?;
+            item.end()?;
+            Ok(order)
+        });
+        Ok(Many::Issue(orders.collect::<Result<_, _>>()?))
+    }
+
+    fn run(self) -> Result<Many, ParseError> {
+        let frames = self.items().into_iter().map(|mut item| item.bytes());
+        Ok(Many::frames(frames.collect::<Result<_, _>>()?))
+    }
+
+    fn written_run(mut self, log: &Log) -> Result<Many, ParseError> {
+        let mut frames = Vec::new();
+        while !self.is_empty() {
+            frames.push(self.frame(log)?);
+        }
+        Ok(Many::frames(frames))
+    }
+
+    fn cut_run(mut self) -> Result<Many, ParseError> {
+        let mut before = self.before(b"/");
+        let mut lengths = Vec::new();
+        while !before.is_empty() {
+            lengths.push(before.number(u64::MAX)?);
+        }
+        // The slash, if it is there.
+        self.next();
+        let bytes = self.bytes()?;
+        Ok(Many::ToBox { lengths, bytes })
     }
 
     fn pieces(&mut self, log: &Log) -> Result<Pieces, ParseError> {
@@ -193,7 +298,7 @@ impl<'a> Words<'a> {
 
     /// A refusal as an answer tells it; it takes all words that are left, whatever they are.
     fn refusal(&mut self) -> Option<Refusal> {
-        let number = u8::try_from(self.any_number().ok()?).ok()?;
+        let number = self.number(u8::MAX.into()).ok()? as u8;
         let offset = match self.next() {
             None => None,
             Some(b"at") => Some(self.number_u32().ok()? as usize),

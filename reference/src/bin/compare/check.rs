@@ -1,7 +1,9 @@
 //! Demand 3's closing sentences, looked at after every call of an allowed script.
 
 use std::collections::{BTreeMap, BTreeSet, HashSet};
+use std::slice;
 
+use reference::link::Frame;
 use reference::office::Word;
 use reference::script::{Answer, Log, Simulation};
 use reference::stream::Came;
@@ -53,22 +55,23 @@ pub fn closing_sentences(lines: &[Vec<u8>]) -> Result<usize, (usize, String)> {
         let Some(answer) = simulation.line(line) else {
             continue;
         };
+        let answer = answer.bare();
         if matches!(answer, Answer::Invalid(..)) {
             continue;
         }
         let broken = |what: &str| Err((place, what.to_string()));
         match carried {
-            Some(Carried::Whole(frame)) if handed_on(&answer) != [&frame[..]] => {
+            Some(Carried::Whole(frame)) if handed_on(answer) != [&frame[..]] => {
                 return broken("a frame given in pieces did not come out once and unchanged");
             }
             Some(Carried::Amid) => return Ok(place),
             _ => {}
         }
-        if !history.allows(&simulation, &words, &answer) {
+        if !history.allows(&simulation, &words, answer) {
             return Ok(place);
         }
-        let accepted = accepted_by_box(carried, &words, &answer);
-        if let Err(what) = history.follow(&simulation, &words, &answer, &accepted) {
+        let accepted = accepted_by_box(carried, &words, answer);
+        if let Err(what) = history.follow(&simulation, &words, answer, &accepted) {
             return broken(what);
         }
     }
@@ -80,7 +83,9 @@ impl History {
     fn allows(&mut self, simulation: &Simulation, words: &[&[u8]], answer: &Answer) -> bool {
         let allowed = match (words, answer) {
             ([b"box" | b"office", ..] | [b"restart", _, ..], _) => false,
-            ([b"stream-box", ..], _) => self.from_office.has_all(&handed_on(answer)),
+            ([b"stream-box" | b"box-all" | b"box-cut", ..], _) => {
+                self.from_office.has_all(&handed_on(answer))
+            }
             ([b"stream-office", ..], _) => self.from_cab.has_all(&handed_on(answer)),
             ([b"open", ..], Answer::Frame(_)) => {
                 let now = simulation.office().progress();
@@ -101,22 +106,28 @@ impl History {
         accepted: &[Vec<u8>],
     ) -> Result<(), &'static str> {
         let office = simulation.office().progress();
-        if let (true, Answer::Frame(frame), Some(now)) = (issues(words), answer, office) {
+        let issued = issued(words, answer);
+        if let (false, Some(now)) = (issued.is_empty(), office) {
             let orders = self.sessions.entry(now.session).or_default();
-            orders.issued.push(frame.clone());
+            orders.issued.extend_from_slice(issued);
             if orders.issued.len() != usize::from(now.issued) {
                 return Err("the issued count is not the number of orders issued");
             }
         }
 
+        for frame in accepted {
+            // One line may bring orders of a session and open the next.
+            let Some(Frame::Order { session, .. }) = Frame::from_bytes(frame) else {
+                continue;
+            };
+            let orders = self.sessions.entry(session).or_default();
+            if orders.issued.get(orders.taken) == Some(frame) {
+                orders.taken += 1;
+            }
+        }
         let open = simulation.cab().open();
         if let Some(open) = open {
             let orders = self.sessions.entry(open.session).or_default();
-            for frame in accepted {
-                if orders.issued.get(orders.taken) == Some(frame) {
-                    orders.taken += 1;
-                }
-            }
             if orders.taken < usize::from(open.taken) {
                 return Err("the orders taken are not the first k issued");
             }
@@ -149,8 +160,13 @@ fn words(line: &[u8]) -> Vec<&[u8]> {
     words.take(4).collect()
 }
 
-fn issues(words: &[&[u8]]) -> bool {
-    matches!(words.first(), Some(&(b"raise" | b"lower" | b"command")))
+/// The orders that a line issued.
+fn issued<'a>(words: &[&[u8]], answer: &'a Answer) -> &'a [Vec<u8>] {
+    match (words, answer) {
+        ([b"raise" | b"lower" | b"command", ..], Answer::Frame(frame)) => slice::from_ref(frame),
+        (_, Answer::Frames(frames)) => frames,
+        _ => &[],
+    }
 }
 
 /// A written frame that a line names.
@@ -179,16 +195,19 @@ fn carried(simulation: &Simulation, words: &[&[u8]]) -> Option<Carried> {
     })
 }
 
-/// The frames that a receiver handed on.
+/// The frames that a receiver handed on, or those of a run.
 fn handed_on(answer: &Answer) -> Vec<&[u8]> {
-    let Answer::Stream(calls) = answer else {
-        return Vec::new();
-    };
-    let frames = calls.iter().filter_map(|heard| match &heard.taken.came {
-        Some(Came::Frame(frame)) => Some(&frame[..]),
-        _ => None,
-    });
-    frames.collect()
+    match answer {
+        Answer::Stream(calls) => {
+            let frames = calls.iter().filter_map(|heard| match &heard.taken.came {
+                Some(Came::Frame(frame)) => Some(&frame[..]),
+                _ => None,
+            });
+            frames.collect()
+        }
+        Answer::Run(run) => run.iter().map(|judged| &judged.frame[..]).collect(),
+        _ => Vec::new(),
+    }
 }
 
 /// The frames in that the box accepted.
@@ -203,6 +222,12 @@ fn accepted_by_box(carried: Option<Carried>, words: &[&[u8]], answer: &Answer) -
                     _ => None,
                 });
             frames.collect()
+        }
+        (_, _, Answer::Run(run)) => {
+            let accepted = run
+                .iter()
+                .filter(|judged| matches!(judged.answer, Answer::Frame(_)));
+            accepted.map(|judged| judged.frame.clone()).collect()
         }
         _ => Vec::new(),
     }

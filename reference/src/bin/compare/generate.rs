@@ -1,11 +1,13 @@
 //! Random scripts, each made against a running reference so that its frames are met.
 
+mod batches;
 mod bus;
 mod faulty;
 mod hostile;
 mod link;
 mod longest;
 mod pieces;
+mod runs;
 mod stream;
 
 use std::collections::BTreeSet;
@@ -16,7 +18,7 @@ use reference::script::{Answer, Simulation};
 
 use crate::lines;
 
-pub use longest::longest_session;
+pub use longest::{longest_by_pages, longest_session};
 
 pub struct Script {
     pub lines: Vec<Vec<u8>>,
@@ -121,10 +123,10 @@ impl Generator {
 
     fn step(&mut self) {
         let weights = match self.kind {
-            Kind::Allowed => [76, 0, 13, 3, 2, 3, 2, 0, 0, 1],
-            Kind::Hostile => [40, 9, 10, 3, 2, 3, 2, 7, 22, 2],
-            Kind::Bench => [0, 0, 4, 46, 17, 4, 26, 0, 0, 3],
-            Kind::Mixed => [24, 6, 10, 11, 10, 14, 8, 5, 10, 2],
+            Kind::Allowed => [76, 0, 13, 3, 2, 3, 2, 0, 0, 1, 0],
+            Kind::Hostile => [40, 9, 10, 3, 2, 3, 2, 7, 22, 2, 7],
+            Kind::Bench => [0, 0, 4, 46, 17, 4, 26, 0, 0, 3, 0],
+            Kind::Mixed => [24, 6, 10, 11, 10, 14, 8, 5, 10, 2, 4],
         };
         match self.rng.weighted(&weights) {
             0 => self.link(),
@@ -138,6 +140,7 @@ impl Generator {
             6 => self.stream(),
             7 => self.hostile_stream(),
             8 => self.faulty(),
+            10 => self.hostile_run(),
             9 => {
                 let line = lines::explain(&mut self.rng);
                 self.emit(line);

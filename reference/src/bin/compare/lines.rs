@@ -266,11 +266,130 @@ const ODD: &[&str] = &[
     "Explain 6",
     "explains 6",
     "explain\t6",
+    "issue-all",
+    "issue-all # raise 1",
+    "issue-all /",
+    "issue-all / /",
+    "issue-all raise 1 /",
+    "issue-all / raise 1",
+    "issue-all raise 1 / / raise 2",
+    "issue-all raise 1/raise 2",
+    "issue-all raise 1 /raise 2",
+    "issue-all raise",
+    "issue-all raise x",
+    "issue-all raise / raise x",
+    "issue-all raise 65536 / raise x",
+    "issue-all raise x / raise 65536",
+    "issue-all raise 1 1 / raise x",
+    "issue-all raise 1 / raise 1 1",
+    "issue-all lower 18446744073709551617",
+    "issue-all command",
+    "issue-all command / raise x",
+    "issue-all command 0 / raise x",
+    "issue-all command 00 01 2 / show",
+    "issue-all show",
+    "issue-all Raise 1",
+    "issue-all open 3",
+    "issue-all resend 1 / raise x",
+    "issue-all 1",
+    "issue-all raise 1 / raise 2 / raise 3 / raise 4 / raise 5 / raise 6 / raise 7 / raise 8 / raise x",
+    "issue-all raise 1 / raise 2 / raise 3 / raise 4 / raise 5 / raise 6 / raise 7 / raise 8 / raise 9 / show",
+    "issue-all raise 1 into",
+    "issue-all raise 1 into x",
+    "issue-all raise 1 into 517",
+    "issue-all raise 1 into 18446744073709551653",
+    "issue-all raise 1 into 037 # 37",
+    "issue-all raise 1 into 37 37",
+    "issue-all raise x into 517",
+    "issue-all raise 1 / into 37",
+    "issue-all into",
+    "issue-all into 0",
+    "issue-all into 516",
+    "issue-all into 517",
+    "Issue-all",
+    "issue-alls",
+    "issue all raise 1",
+    "issueall",
+    "box-all",
+    "box-all into",
+    "box-all into 40",
+    "box-all into x",
+    "box-all into 517",
+    "box-all into 40 40",
+    "box-all 1",
+    "box-all 10 / 1",
+    "box-all 10 / zz / 1",
+    "box-all 10/10",
+    "box-all 10 /10",
+    "box-all / / / / / / / / / 1",
+    "box-all / / / / / / / / into 516",
+    "box-alls",
+    "boxall",
+    "office-all",
+    "to-box-all",
+    "to-box-all into 0",
+    "to-box-all into 1000",
+    "to-box-all x",
+    "to-box-all 0",
+    "to-box-all 0 x",
+    "to-box-all x 0",
+    "to-box-all 18446744073709551617",
+    "to-box-all 1 / 1",
+    "to-box-all 1x",
+    "to-office-all 1",
+    "box-cut",
+    "box-cut /",
+    "box-cut into 3",
+    "box-cut / into 3",
+    "box-cut / into",
+    "box-cut 00 / 10",
+    "box-cut 1 / 1",
+    "box-cut x / 1",
+    "box-cut 1 x / 10",
+    "box-cut 1/10",
+    "box-cut 1 10",
+    "box-cut 1 / 10 / 10",
+    "box-cut / /",
+    "box-cut / 10",
+    "box-cut / 10 into 0",
+    "box-cut -1 / 10",
+    "box-cut 1 / 10 into 517",
+    "box-cut 18446744073709551615",
+    "box-cut 18446744073709551615 1",
+    "box-cut 18446744073709551615 2 / 10",
+    "box-cut 2 18446744073709551615 / 10 into 516",
+    "box-cut 18446744073709551616",
+    "box-cut 18446744073709551617 / 10",
+    "box-cut 18446744073709551616 x",
+    "box-cut 340282366920938463463374607431768211456 / 10",
+    "box-cut 9223372036854775808 9223372036854775808",
+    "box-cut 9223372036854775808 9223372036854775808 1 / 10 into 111",
+    "box-cut 4294967297 / 10",
+    "box-cut 65537 / 10",
+    "box-cut 257 / 10",
+    "box-cut 0 0 0 0 0 0 0 0 0 into 516",
     "measure",
     "ok",
     "box-to 1",
     ".",
     "0",
+];
+
+/// Runs with frames that no office wrote.
+const ODD_RUNS: &[&str] = &[
+    "box-all /",
+    "box-all / /",
+    "box-all / into 74",
+    "box-all / into 73",
+    "box-all / / / / / / / into 296",
+    "box-all / / / / / / / into 295",
+    "box-cut 0",
+    "box-cut 0 into 36",
+    "box-cut 0 into 37",
+    "box-cut 0 0 /",
+    "box-cut 01 / 10",
+    "box-cut 0 0 0 0 0 0 0 0",
+    "box-cut 0 0 0 0 0 0 0 0 into 296",
 ];
 
 const RAW: &[&[u8]] = &[
@@ -300,14 +419,25 @@ pub fn odd(rng: &mut Rng) -> Vec<u8> {
             line.extend(b"show");
             line
         }
-        // The longest that is read, and one byte more.
         11..=12 => {
-            let word = rng.pick(&["bus", "stream"]);
-            let count = most_bytes(word) + rng.below(2);
-            [word.as_bytes(), &b" 00".repeat(count)].concat()
+            let word = rng.pick(&["bus", "stream", "issue-all command"]);
+            longest(rng, word)
         }
         _ => rng.pick(ODD).as_bytes().to_vec(),
     }
+}
+
+pub fn odd_run(rng: &mut Rng) -> Vec<u8> {
+    match rng.below(10) {
+        0 => longest(rng, "box-all"),
+        _ => rng.pick(ODD_RUNS).as_bytes().to_vec(),
+    }
+}
+
+/// As many bytes as a line can hold, or one more.
+fn longest(rng: &mut Rng, first: &str) -> Vec<u8> {
+    let count = most_bytes(first) + rng.below(2);
+    [first.as_bytes(), &b" 00".repeat(count)].concat()
 }
 
 /// A refusal to be told in words, or nearly one.

@@ -26,7 +26,7 @@ use generate::Script;
 
 const CALLS: usize = 200_000;
 const SEED: u64 = 1;
-/// From this many calls on, a session of 65535 orders is run besides.
+/// From this many calls on, two sessions of 65535 orders are run besides.
 const ENOUGH_FOR_LONGEST: usize = 100_000;
 const MOST_PRINTED: usize = 1000;
 
@@ -87,10 +87,17 @@ fn compare(program: &Path, calls: usize, seed: u64) -> io::Result<Option<usize>>
         }
     }
     if calls >= ENOUGH_FOR_LONGEST {
-        let script = generate::longest_session(Rng::new(seed, 0));
-        compared += script.calls;
-        if !agrees(program, &script, &format!("longest session of seed {seed}"))? {
-            return Ok(None);
+        for (script, name) in [
+            (generate::longest_session(Rng::new(seed, 0)), "longest session"),
+            (
+                generate::longest_by_pages(Rng::new(seed, 0)),
+                "longest session by pages",
+            ),
+        ] {
+            compared += script.calls;
+            if !agrees(program, &script, &format!("{name} of seed {seed}"))? {
+                return Ok(None);
+            }
         }
     }
     Ok(Some(compared))

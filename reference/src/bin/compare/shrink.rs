@@ -1,6 +1,8 @@
 //! Makes a failing script short.
 
 use std::collections::HashMap;
+use std::ops::Range;
+use std::slice;
 use std::time::{Duration, Instant};
 
 use reference::script::{Hex, Log, Simulation};
@@ -21,6 +23,11 @@ enum Step {
 #[derive(Clone)]
 struct Delivery {
     way: Way,
+    frames: Vec<Delivered>,
+}
+
+#[derive(Clone)]
+struct Delivered {
     writer: Writer,
     frame: Vec<u8>,
 }
@@ -29,9 +36,73 @@ struct Delivery {
 enum Way {
     ToBox,
     ToOffice,
+    /// A run, with what stands behind its frames.
+    ToBoxAll(String),
     /// With the length of a piece.
     PiecesBox(String),
     PiecesOffice(String),
+}
+
+impl Way {
+    fn to_box(&self) -> bool {
+        matches!(self, Way::ToBox | Way::ToBoxAll(_) | Way::PiecesBox(_))
+    }
+}
+
+/// What a line is made of: words, or items between slashes.
+#[derive(Clone, Copy)]
+enum Unit {
+    Word,
+    Item,
+}
+
+impl Unit {
+    fn split(self, line: &[u8]) -> Vec<Vec<u8>> {
+        let words: Vec<&[u8]> = line.split(|byte| *byte == b' ').collect();
+        match self {
+            Unit::Word => words.into_iter().map(<[u8]>::to_vec).collect(),
+            Unit::Item => {
+                let items = words.split(|word| *word == b"/");
+                items.map(|item| item.join(&b' ')).collect()
+            }
+        }
+    }
+
+    fn joined(self, parts: &[Vec<u8>]) -> Vec<u8> {
+        match self {
+            Unit::Word => parts.join(&b" "[..]),
+            Unit::Item => parts.join(&b" / "[..]),
+        }
+    }
+}
+
+impl Step {
+    /// How many parts it has that can go: those behind a line's first one, frames of a run.
+    fn parts(&self, unit: Unit) -> usize {
+        match self {
+            Step::Line(line) => unit.split(line).len() - 1,
+            Step::Delivery(Delivery {
+                way: Way::ToBoxAll(_),
+                frames,
+            }) => frames.len(),
+            Step::Delivery(_) => 0,
+        }
+    }
+
+    fn without(&self, unit: Unit, parts: Range<usize>) -> Step {
+        match self {
+            Step::Line(line) => {
+                let mut kept = unit.split(line);
+                kept.drain(parts.start + 1..parts.end + 1);
+                Step::Line(unit.joined(&kept))
+            }
+            Step::Delivery(delivery) => {
+                let mut delivery = delivery.clone();
+                delivery.frames.drain(parts);
+                Step::Delivery(delivery)
+            }
+        }
+    }
 }
 
 /// A line, and which of the frames that it wrote.
@@ -67,13 +138,15 @@ where
     };
     let mut best = attempt(steps)?;
 
-    // A line with fewer words may make others needless.
+    // A line with fewer words or frames may make others needless.
     loop {
         let before = size(&best);
         last_lines(&mut best, &mut attempt);
         fewer_lines(&mut best, &mut attempt, deadline);
         for place in (0..best.len()).rev() {
-            fewer_words(&mut best, place, &mut attempt, deadline);
+            for unit in [Unit::Item, Unit::Word] {
+                fewer_parts(&mut best, place, unit, &mut attempt, deadline);
+            }
         }
         if size(&best) == before || Instant::now() >= deadline {
             return Some(rendered(best).1);
@@ -82,11 +155,8 @@ where
 }
 
 fn size(steps: &Steps) -> usize {
-    let bytes = steps.iter().map(|(_, step)| match step {
-        Step::Line(line) => line.len(),
-        Step::Delivery(_) => 0,
-    });
-    steps.len() + bytes.sum::<usize>()
+    let parts = steps.iter().map(|(_, step)| 1 + step.parts(Unit::Word));
+    parts.sum()
 }
 
 /// Keeps the last line alone if that will do, else the last two, four and so on.
@@ -130,26 +200,25 @@ where
     }
 }
 
-fn fewer_words<A>(best: &mut Steps, place: usize, attempt: &mut A, deadline: Instant)
+fn fewer_parts<A>(best: &mut Steps, place: usize, unit: Unit, attempt: &mut A, deadline: Instant)
 where
     A: FnMut(Steps) -> Option<Steps>,
 {
-    let Some((id, Step::Line(line))) = best.get(place).cloned() else {
+    let Some((id, mut step)) = best.get(place).cloned() else {
         return;
     };
-    let mut words: Vec<&[u8]> = line.split(|byte| *byte == b' ').collect();
-    let mut chunk = words.len();
+    let mut chunk = step.parts(unit);
     while chunk > 0 {
-        let mut start = 1;
-        while start < words.len() && Instant::now() < deadline {
-            let end = words.len().min(start + chunk);
-            let fewer = [&words[..start], &words[end..]].concat();
+        let mut start = 0;
+        while start < step.parts(unit) && Instant::now() < deadline {
+            let end = step.parts(unit).min(start + chunk);
+            let fewer = step.without(unit, start..end);
             let mut candidate = best.clone();
-            candidate[place] = (id, Step::Line(fewer.join(&b' ')));
+            candidate[place] = (id, fewer.clone());
             match attempt(candidate) {
                 Some(smaller) if smaller.len() == best.len() => {
                     *best = smaller;
-                    words = fewer;
+                    step = fewer;
                 }
                 _ => start = end,
             }
@@ -166,17 +235,19 @@ fn steps_of(lines: &[Vec<u8>]) -> Steps {
     let mut from_office: Vec<Writer> = Vec::new();
     let mut steps = Vec::new();
     for (id, line) in lines.iter().enumerate() {
-        let delivery = way_of(line).and_then(|(way, index)| {
-            let (log, writers) = match way {
-                Way::ToBox | Way::PiecesBox(_) => (simulation.from_office(), &from_office),
-                Way::ToOffice | Way::PiecesOffice(_) => (simulation.from_cab(), &from_cab),
+        let delivery = way_of(line).and_then(|(way, indexes)| {
+            let (log, writers) = if way.to_box() {
+                (simulation.from_office(), &from_office)
+            } else {
+                (simulation.from_cab(), &from_cab)
             };
-            let frame = log.get(index)?.to_vec();
-            Some(Delivery {
-                way,
-                writer: writers[index as usize - 1],
-                frame,
-            })
+            let frames = indexes.into_iter().map(|index| {
+                let frame = log.get(index)?.to_vec();
+                let writer = writers[index as usize - 1];
+                Some(Delivered { writer, frame })
+            });
+            let frames = frames.collect::<Option<_>>()?;
+            Some(Delivery { way, frames })
         });
         let step = match delivery {
             Some(delivery) => Step::Delivery(delivery),
@@ -190,17 +261,20 @@ fn steps_of(lines: &[Vec<u8>]) -> Steps {
     steps
 }
 
-/// How a line delivers a frame, and the frame's number.
-fn way_of(line: &[u8]) -> Option<(Way, u64)> {
+/// How a line delivers frames, and the frames' numbers.
+fn way_of(line: &[u8]) -> Option<(Way, Vec<u64>)> {
     let words: Vec<&str> = std::str::from_utf8(line).ok()?.split(' ').collect();
-    let (way, index) = match words[..] {
-        ["to-box", index] => (Way::ToBox, index),
-        ["to-office", index] => (Way::ToOffice, index),
-        ["pieces-box", index, length] => (Way::PiecesBox(length.to_string()), index),
-        ["pieces-office", index, length] => (Way::PiecesOffice(length.to_string()), index),
+    let (way, indexes) = match &words[..] {
+        ["to-box", index] => (Way::ToBox, slice::from_ref(index)),
+        ["to-office", index] => (Way::ToOffice, slice::from_ref(index)),
+        ["to-box-all", indexes @ .., "into", lent] => (Way::ToBoxAll(format!(" into {lent}")), indexes),
+        ["to-box-all", indexes @ ..] => (Way::ToBoxAll(String::new()), indexes),
+        ["pieces-box", index, length] => (Way::PiecesBox(length.to_string()), slice::from_ref(index)),
+        ["pieces-office", index, length] => (Way::PiecesOffice(length.to_string()), slice::from_ref(index)),
         _ => return None,
     };
-    Some((way, index.parse().ok()?))
+    let indexes = indexes.iter().map(|index| index.parse().ok());
+    Some((way, indexes.collect::<Option<_>>()?))
 }
 
 fn note_writer(writers: &mut Vec<Writer>, id: usize, log: &Log) {
@@ -211,15 +285,21 @@ fn note_writer(writers: &mut Vec<Writer>, id: usize, log: &Log) {
 /// The same with every delivered frame given as bytes.
 fn written_out(mut steps: Steps) -> Steps {
     for (_, step) in &mut steps {
-        let Step::Delivery(Delivery { way, frame, .. }) = step else {
+        let Step::Delivery(Delivery { way, frames }) = step else {
             continue;
         };
-        let wrapped = wrap(frame, usize::MAX).unwrap_or_default();
+        let bytes = |frame: &[u8]| Hex(frame).to_string();
+        let wrapped = |frame: &[u8]| bytes(&wrap(frame, usize::MAX).unwrap_or_default());
+        let written = |bytes: &dyn Fn(&[u8]) -> String| {
+            let frames = frames.iter().map(|delivered| bytes(&delivered.frame));
+            frames.collect::<Vec<_>>().join(" /")
+        };
         let line = match way {
-            Way::ToBox => format!("box{}", Hex(frame)),
-            Way::ToOffice => format!("office{}", Hex(frame)),
-            Way::PiecesBox(_) => format!("stream-box{}", Hex(&wrapped)),
-            Way::PiecesOffice(_) => format!("stream-office{}", Hex(&wrapped)),
+            Way::ToBox => format!("box{}", written(&bytes)),
+            Way::ToOffice => format!("office{}", written(&bytes)),
+            Way::ToBoxAll(behind) => format!("box-all{}{behind}", written(&bytes)),
+            Way::PiecesBox(_) => format!("stream-box{}", written(&wrapped)),
+            Way::PiecesOffice(_) => format!("stream-office{}", written(&wrapped)),
         };
         *step = Step::Line(line.into());
     }
@@ -246,13 +326,13 @@ impl Places {
         self.written = log.written();
     }
 
-    fn find(&self, delivery: &Delivery) -> Option<u64> {
-        let place = self.by_writer.get(&delivery.writer);
-        place.or_else(|| self.by_bytes.get(&delivery.frame)).copied()
+    fn find(&self, delivered: &Delivered) -> Option<u64> {
+        let place = self.by_writer.get(&delivered.writer);
+        place.or_else(|| self.by_bytes.get(&delivered.frame)).copied()
     }
 }
 
-/// The steps as lines; deliveries of frames that nobody writes now are left out.
+/// The steps as lines; frames that nobody writes now are left out, and deliveries of these alone.
 fn rendered(steps: Steps) -> (Steps, Vec<Vec<u8>>) {
     let mut simulation = Simulation::new();
     let mut from_cab = Places::default();
@@ -263,11 +343,15 @@ fn rendered(steps: Steps) -> (Steps, Vec<Vec<u8>>) {
         let line = match &step {
             Step::Line(line) => Some(line.clone()),
             Step::Delivery(delivery) => {
-                let places = match delivery.way {
-                    Way::ToBox | Way::PiecesBox(_) => &from_office,
-                    Way::ToOffice | Way::PiecesOffice(_) => &from_cab,
+                let places = if delivery.way.to_box() {
+                    &from_office
+                } else {
+                    &from_cab
                 };
-                places.find(delivery).map(|index| carrying(&delivery.way, index))
+                let found = delivery.frames.iter().filter_map(|frame| places.find(frame));
+                let indexes: Vec<String> = found.map(|index| index.to_string()).collect();
+                let lost = indexes.is_empty() && !delivery.frames.is_empty();
+                (!lost).then(|| carrying(&delivery.way, &indexes.join(" ")))
             }
         };
         let Some(line) = line else {
@@ -282,12 +366,13 @@ fn rendered(steps: Steps) -> (Steps, Vec<Vec<u8>>) {
     (kept, lines)
 }
 
-fn carrying(way: &Way, index: u64) -> Vec<u8> {
+fn carrying(way: &Way, indexes: &str) -> Vec<u8> {
     let line = match way {
-        Way::ToBox => format!("to-box {index}"),
-        Way::ToOffice => format!("to-office {index}"),
-        Way::PiecesBox(length) => format!("pieces-box {index} {length}"),
-        Way::PiecesOffice(length) => format!("pieces-office {index} {length}"),
+        Way::ToBox => format!("to-box {indexes}"),
+        Way::ToOffice => format!("to-office {indexes}"),
+        Way::ToBoxAll(behind) => format!("to-box-all {indexes}{behind}"),
+        Way::PiecesBox(length) => format!("pieces-box {indexes} {length}"),
+        Way::PiecesOffice(length) => format!("pieces-office {indexes} {length}"),
     };
     line.into()
 }

@@ -17,6 +17,7 @@ fn refusals(scripts: impl Iterator<Item = Script>) -> BTreeSet<(String, u8)> {
         let mut simulation = Simulation::new();
         for line in &script.lines {
             let answer = simulation.line(line);
+            let answer = answer.as_ref().map(Answer::bare);
             if let Some(Answer::Refused(refusal) | Answer::RefusedFrame(refusal, _)) = answer {
                 let first = line.split(|byte| *byte == b' ').next().unwrap_or_default();
                 seen.insert((first.escape_ascii().to_string(), refusal.number()));
@@ -29,7 +30,8 @@ fn refusals(scripts: impl Iterator<Item = Script>) -> BTreeSet<(String, u8)> {
 #[test]
 fn every_refusal_is_met() {
     let random = (1..40).map(|number| generate::script(Rng::new(SEED, number), 3000));
-    let longest = std::iter::once_with(|| generate::longest_session(Rng::new(SEED, 0)));
+    let longest = [generate::longest_session, generate::longest_by_pages];
+    let longest = longest.into_iter().map(|script| script(Rng::new(SEED, 0)));
     let seen = refusals(random.chain(longest));
     for (first, numbers) in [
         ("open", &[1, 6][..]),
@@ -37,6 +39,10 @@ fn every_refusal_is_met() {
         ("raise", &[1, 8, 9, 10]),
         ("lower", &[1, 8, 10]),
         ("command", &[1, 2, 8, 9, 10]),
+        ("issue-all", &[1, 2, 8, 9, 10]),
+        ("box-all", &[1, 2]),
+        ("to-box-all", &[1, 2]),
+        ("box-cut", &[1, 2]),
         ("resend", &[1, 10, 13]),
         ("box", &[1, 5, 6, 7, 14, 15, 16, 17, 18, 19]),
         ("to-box", &[1, 5, 6, 7]),
@@ -445,6 +451,188 @@ fn every_outcome_of_a_stream_is_met() {
     }
 }
 
+/// The words of a line behind its first one, and behind ` into ` at its end.
+fn arguments(line: &[u8]) -> (Vec<String>, Option<usize>) {
+    let text = String::from_utf8_lossy(line).into_owned();
+    let mut words: Vec<String> = text.split(' ').skip(1).map(String::from).collect();
+    match &words[..] {
+        [.., into, lent] if into == "into" => {
+            let lent = lent.parse().ok();
+            words.truncate(words.len() - 2);
+            (words, lent)
+        }
+        _ => (words, None),
+    }
+}
+
+/// The length of the ORDER that an item of a batch asks for.
+fn order_length(item: &[String]) -> usize {
+    match &item[0][..] {
+        "command" => 11 + item.len(),
+        _ => 14,
+    }
+}
+
+#[test]
+fn batches_at_every_limit_are_met() {
+    // With how many unanswered, of how many orders, which is the first that has not enough output, and
+    // by how many bytes; 0 where all have it just so.
+    let mut short = BTreeSet::new();
+    let mut refused_8 = BTreeSet::new();
+    let mut refused_2 = BTreeSet::new();
+    let mut issued = BTreeSet::new();
+    for (_, script) in scripts(CALLS, SEED) {
+        let mut simulation = Simulation::new();
+        for line in script.lines {
+            let now = simulation.office().progress();
+            let unanswered = now.map_or(0, |now| now.issued - now.confirmed);
+            let room = simulation.room();
+            let answer = simulation.line(&line);
+            let ("issue-all", Some(answer)) = (first_word(&line), answer) else {
+                continue;
+            };
+            let (words, lent) = arguments(&line);
+            let room = lent.unwrap_or(room);
+            let items: Vec<&[String]> = words.split(|word| word == "/").collect();
+            match answer.bare() {
+                Answer::Refused(Refusal::ShortOutput) => {
+                    let mut before = 0;
+                    for (place, item) in items.iter().enumerate() {
+                        if before + 37 > room {
+                            short.insert((place + 1, before + 37 - room));
+                            break;
+                        }
+                        before += order_length(item);
+                    }
+                }
+                Answer::Refused(Refusal::WindowFull) => {
+                    refused_8.insert((unanswered, items.len()));
+                }
+                Answer::Refused(Refusal::TooMuchData) if items.len() <= 8 => {
+                    refused_2.insert(items.iter().position(|item| item.len() > 18));
+                }
+                Answer::Frames(frames) => {
+                    let last = frames.last().map_or(0, Vec::len);
+                    let written: usize = frames.iter().map(Vec::len).sum();
+                    issued.insert((unanswered, frames.len()));
+                    if !frames.is_empty() && written - last + 37 == room {
+                        short.insert((frames.len(), 0));
+                    }
+                }
+                _ => {}
+            }
+        }
+    }
+    for place in 1..=8 {
+        for missing in [0, 1] {
+            assert!(short.contains(&(place, missing)), "{place} {missing}");
+        }
+        assert!(refused_2.contains(&Some(place - 1)), "{place}");
+        assert!(issued.contains(&(0, place)), "{place}");
+        assert!(issued.contains(&(place as u16 % 8, 8 - place % 8)), "{place}");
+        assert!(refused_8.contains(&(place as u16, 9 - place)), "{place}");
+    }
+}
+
+#[test]
+fn runs_at_every_limit_are_met() {
+    let mut rooms = BTreeSet::new();
+    let mut answers: BTreeMap<(String, String), usize> = BTreeMap::new();
+    let mut sums = BTreeSet::new();
+    for (_, script) in scripts(CALLS, SEED) {
+        let mut simulation = Simulation::new();
+        for line in script.lines {
+            let room = simulation.room();
+            let first = first_word(&line).to_string();
+            let Some(answer) = simulation.line(&line) else {
+                continue;
+            };
+            if !["box-all", "to-box-all", "box-cut"].contains(&&first[..]) {
+                continue;
+            }
+            let (words, lent) = arguments(&line);
+            let room = lent.unwrap_or(room);
+            let slash = words.iter().position(|word| word == "/");
+            let count = match &first[..] {
+                "box-all" => words.iter().filter(|word| *word == "/").count() + 1,
+                "to-box-all" => words.len(),
+                _ => slash.unwrap_or(words.len()),
+            };
+            match answer.bare() {
+                Answer::Run(run) if !run.is_empty() => {
+                    rooms.insert((first.clone(), count, room as i64 - 37 * count as i64));
+                    for (place, judged) in run.iter().enumerate() {
+                        let told = match &judged.answer {
+                            Answer::Frame(_) => "ok".to_string(),
+                            Answer::RefusedFrame(refusal, _) => refusal.number().to_string(),
+                            other => panic!("{other}"),
+                        };
+                        *answers.entry((first.clone(), told.clone())).or_default() += 1;
+                        // Something is judged behind a refused frame.
+                        if place > 0 && matches!(run[place - 1].answer, Answer::RefusedFrame(..)) {
+                            *answers
+                                .entry((first.clone(), format!("{told} behind")))
+                                .or_default() += 1;
+                        }
+                    }
+                }
+                Answer::Refused(Refusal::ShortOutput) => {
+                    rooms.insert((first.clone(), count, room as i64 - 37 * count as i64));
+                }
+                Answer::Refused(Refusal::TooMuchData) if first == "box-cut" && count <= 8 => {
+                    let lengths = words[..count].iter().map(|word| word.parse::<u64>().unwrap());
+                    let bytes = words.len().saturating_sub(count + 1) as u64;
+                    let sum = lengths.fold(0, u64::wrapping_add);
+                    sums.insert(match sum.wrapping_sub(bytes) {
+                        0 => "2^64",
+                        1 => "1",
+                        u64::MAX => "-1",
+                        other if other % (1 << 32) == 0 => "2^32",
+                        other if other % (1 << 16) == 0 => "2^16",
+                        other if other % (1 << 8) == 0 => "2^8",
+                        _ => "other",
+                    });
+                }
+                _ => {}
+            }
+        }
+    }
+    for first in ["box-all", "to-box-all", "box-cut"] {
+        for count in 1..=8 {
+            for more in [-1, 0] {
+                let key = (first.to_string(), count, more);
+                assert!(rooms.contains(&key), "{key:?}");
+            }
+        }
+    }
+    for (first, told) in [
+        (
+            "box-all",
+            &["ok", "5", "6", "7", "14", "15", "16", "17", "18", "19"][..],
+        ),
+        (
+            "box-cut",
+            &["ok", "5", "6", "7", "14", "15", "16", "17", "18", "19"],
+        ),
+        ("to-box-all", &["ok", "5", "6", "7"]),
+        (
+            "box-all",
+            &["ok behind", "5 behind", "6 behind", "7 behind", "14 behind"],
+        ),
+        ("to-box-all", &["ok behind", "5 behind", "6 behind", "7 behind"]),
+    ] {
+        for told in told {
+            let key = (first.to_string(), told.to_string());
+            let count = answers.get(&key).copied().unwrap_or(0);
+            assert!(count > 10, "{key:?} {count}");
+        }
+    }
+    assert_eq!(
+        sums,
+        BTreeSet::from(["2^64", "1", "-1", "2^32", "2^16", "2^8", "other"])
+    );
+}
+
 /// The length of a frame, and after how many of its wrapped bytes a line ended.
 fn cut_frame(calls: &[Heard]) -> Option<(usize, usize)> {
     let first = calls.first()?;
@@ -551,13 +739,48 @@ fn streams_in_a_list() {
 }
 
 #[test]
+fn batches_and_runs_in_a_list() {
+    let list = [
+        "open 3",
+        "to-box-all 1",
+        "to-office 1",
+        "issue-all raise 1 / raise 2 / lower 1 into 100",
+        "box-all 12 06 00 03 00 00 00 01 00 22 02 00 01 00 / 10 04 00 03 00 00 00 into 74",
+        "show",
+        // Refused as a whole, so that nothing is asked of its bytes.
+        "box-cut 1 / 10 into 36",
+        "box-cut 1 1 / 10",
+        "box-cut 14 14 / 12 06 00 03 00 00 00 02 00 22 02 00 02 00 12 06 00 03 00 00 00 03 00 23 02 00 01 00 into 80",
+        "to-office 5",
+        "show",
+    ];
+    let covered = |lines: &[&str]| check::closing_sentences(&lines_of(lines));
+    assert_eq!(covered(&list), Ok(11));
+    // Frames that nobody wrote.
+    assert_eq!(
+        covered(&[&list[..4], &["box-all 10 into 37", "show"]].concat()),
+        Ok(4)
+    );
+    assert_eq!(covered(&[&list[..4], &["box-cut 0", "show"]].concat()), Ok(4));
+}
+
+#[test]
 fn closing_sentences_hold() {
     let scripts = (1..40).map(|number| generate::script(Rng::new(SEED, number), 3000));
     let allowed: Vec<Script> = scripts.filter(|script| script.allowed).collect();
     assert!(allowed.len() > 5);
     let lines = allowed.iter().flat_map(|script| &script.lines);
     let firsts: BTreeSet<&str> = lines.map(|line| first_word(line)).collect();
-    for first in ["pieces-box", "pieces-office", "stream-box", "stream-office"] {
+    for first in [
+        "pieces-box",
+        "pieces-office",
+        "stream-box",
+        "stream-office",
+        "issue-all",
+        "to-box-all",
+        "box-all",
+        "box-cut",
+    ] {
         assert!(firsts.contains(first), "{first}");
     }
     for script in allowed {
@@ -586,6 +809,33 @@ fn shrinking_renumbers_deliveries() {
     };
     let short = shrink::shortest(&lines, opens);
     assert_eq!(short.join(&b' '), b"open 3 to-box 1 to-office 1");
+}
+
+#[test]
+fn shrinking_renumbers_runs() {
+    let lines = lines_of(&[
+        "open 2",
+        "open 3",
+        "to-box-all 1 2 1 2 into 516",
+        "to-office 4",
+        "to-office 2",
+        "show",
+        "issue-all raise 1 / raise 2 / raise 3 into 516",
+        "to-box-all 1 3 2 4 3 into 400",
+    ]);
+    let two_taken = |lines: &[Vec<u8>]| {
+        let mut simulation = Simulation::new();
+        lines.iter().position(|line| {
+            simulation.line(line);
+            let issued = simulation.office().progress().map_or(0, |now| now.issued);
+            issued > 1 && simulation.cab().open().is_some_and(|open| open.taken == 2)
+        })
+    };
+    let short = shrink::shortest(&lines, two_taken);
+    assert_eq!(
+        short.join(&b'/').escape_ascii().to_string(),
+        "open 3/to-box-all 1 into 516/to-office 1/issue-all raise 1 / raise 3 into 516/to-box-all 2 3 into 400"
+    );
 }
 
 #[test]

@@ -1,16 +1,19 @@
-//! What the programs are fed: five kinds of bus traffic, and the script of a session.
+//! What the programs are fed: five kinds of bus traffic, and the scripts of a session.
 
 use std::fmt::Write as _;
 use std::fs::{self, File};
 use std::io::{self, Seek, Write};
 use std::{env, iter, process};
 
+use reference::link::LONGEST_FRAME;
 use reference::packet::{ESCAPE, LONGEST_PACKET, START, Way, write_packet};
 use reference::rng::Rng;
 
 use crate::Failure;
 
 pub const ORDERS: usize = 60_000;
+/// The orders of a batch, and the frames of a run.
+pub const PAGE: usize = 8;
 
 const BACKLIGHT: u8 = 0x00;
 const STATUS: u8 = 0x33;
@@ -129,15 +132,39 @@ fn special(rng: &mut Rng, count: usize) -> Vec<u8> {
 
 /// A session whose orders are each delivered and acknowledged before the next.
 pub fn session() -> Result<Input, Failure> {
-    let mut script = "open 1\nto-box 1\nto-office 1\n".to_string();
+    let mut script = OPENED.to_string();
     for number in 1..=ORDERS {
-        let (way, step) = if number % 2 == 1 {
-            ("raise", 1003)
-        } else {
-            ("lower", 1000)
-        };
+        let order = order(number);
         let frame = number + 1;
-        writeln!(script, "{way} {step}\nto-box {frame}\nto-office {frame}").expect("room in a string");
+        writeln!(script, "{order}\nto-box {frame}\nto-office {frame}").expect("room in a string");
     }
     Input::of(script.as_bytes())
+}
+
+/// The same orders by pages: each issued by one call, delivered by one, and acknowledged by its last ACK.
+pub fn session_by_pages() -> Result<Input, Failure> {
+    let mut script = format!("{OPENED}room {}\n", PAGE * LONGEST_FRAME);
+    for before in (0..ORDERS).step_by(PAGE) {
+        let numbers = before + 1..=before + PAGE;
+        let orders: Vec<&str> = numbers.clone().map(order).collect();
+        let frames: Vec<String> = numbers.map(|number| (number + 1).to_string()).collect();
+        let (orders, frames) = (orders.join(" / "), frames.join(" "));
+        let last = before + PAGE + 1;
+        writeln!(
+            script,
+            "issue-all {orders}\nto-box-all {frames}\nto-office {last}"
+        )
+        .expect("room in a string");
+    }
+    Input::of(script.as_bytes())
+}
+
+const OPENED: &str = "open 1\nto-box 1\nto-office 1\n";
+
+fn order(number: usize) -> &'static str {
+    if number % 2 == 1 {
+        "raise 1003"
+    } else {
+        "lower 1000"
+    }
 }

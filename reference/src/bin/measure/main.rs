@@ -1,6 +1,6 @@
 //! `measure PROGRAMS_DIR`: another implementation's `bench` and `simulate`, measured. The bus is
-//! compared with `plain`, the controller written for speed in document 01's forms; starts and a session
-//! with the reference.
+//! compared with `plain`, the controller written for speed in document 01's forms; starts and a session,
+//! order by order and by pages, with the reference.
 
 #![forbid(unsafe_code)]
 
@@ -12,7 +12,7 @@ use std::path::{Path, PathBuf};
 use std::process::ExitCode;
 use std::{env, fs, io, thread};
 
-use input::{Input, ORDERS};
+use input::{Input, ORDERS, PAGE};
 use table::Table;
 
 /// Short runs, and many: where other work disturbs most of them, some are left alone.
@@ -64,11 +64,11 @@ fn measure(others: &Path, ours: &Path) -> Result<(), Failure> {
 
     println!("{}", machine());
     println!("Times: wall clock, whole processes, spawn to exit, fed from a file; best of {ROUNDS} rounds,");
-    println!("of {SESSION_ROUNDS} for the session, all programs in turn within each round.");
+    println!("of {SESSION_ROUNDS} for a session, all programs in turn within each round.");
     println!();
     bus(&on_bus)?;
     println!();
-    starts_and_session(&benches, &simulates)?;
+    starts_and_sessions(&benches, &simulates)?;
     println!();
     println!("All outputs were equal, byte for byte.");
     Ok(())
@@ -155,12 +155,12 @@ fn bus_row(kind: &str, mut figures: Vec<f64>) -> Vec<String> {
     row
 }
 
-fn starts_and_session(benches: &[PathBuf], simulates: &[PathBuf]) -> Result<(), Failure> {
-    println!("Starts and a session, output through a pipe; ratios are of times, other / reference.");
+fn starts_and_sessions(benches: &[PathBuf], simulates: &[PathBuf]) -> Result<(), Failure> {
+    println!("Starts and sessions, output through a pipe; ratios are of times, other / reference.");
     println!();
     let what = format!("{:<46}", "what");
     let table = Table::headed(&[&what, "other implementation", "reference", "ratio"].map(String::from));
-    let row = |what: &str, programs, input, rounds, told: fn(f64) -> String| {
+    let row = |what: &str, programs, input: &Input, rounds, told: fn(f64) -> String| {
         run::check_equal(what, programs, input)?;
         let mut output = Vec::new();
         let best = run::best_times(programs, rounds, |path| {
@@ -180,7 +180,11 @@ fn starts_and_session(benches: &[PathBuf], simulates: &[PathBuf]) -> Result<(), 
     start("start of bench, empty input, ms", benches)?;
     start("start of simulate, empty input, ms", simulates)?;
     let orders = "orders through a session of simulate, orders/s";
-    row(orders, simulates, &input::session()?, SESSION_ROUNDS, |seconds| {
-        format!("{:.0}", ORDERS as f64 / seconds)
-    })
+    let pages = format!("the same orders, {PAGE} at once, orders/s");
+    for (what, input) in [(orders, input::session()?), (&pages, input::session_by_pages()?)] {
+        row(what, simulates, &input, SESSION_ROUNDS, |seconds| {
+            format!("{:.0}", ORDERS as f64 / seconds)
+        })?;
+    }
+    Ok(())
 }

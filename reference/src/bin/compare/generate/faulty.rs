@@ -34,7 +34,7 @@ impl Generator {
         if self.rng.chance(80) { end } else { end.other() }
     }
 
-    fn faulty_frame(&mut self, end: End) -> Vec<u8> {
+    pub(super) fn faulty_frame(&mut self, end: End) -> Vec<u8> {
         let meant = self.meant(end);
         let aim = self.aim();
         damage::faulty(&mut self.rng, &aim, meant)

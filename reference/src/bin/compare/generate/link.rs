@@ -25,6 +25,10 @@ impl Generator {
             Office::Opening { .. } => (15, 120),
             Office::Open(_) => (8, 8),
         };
+        let batches = match self.simulation.office() {
+            Office::Open(_) => 28,
+            _ => 10,
+        };
         let [to_box, to_office, issue, resend] = match self.pace {
             Pace::Smooth => [340, 330, 250, 30],
             Pace::Burst => [150, 120, 650, 40],
@@ -35,6 +39,7 @@ impl Generator {
             .rng
             .weighted(&[to_box, to_office, issue, resend, open, reopen, 5, 14])
         {
+            0 if self.rng.chance(18) => self.run(),
             0 => {
                 let index = next_frame(&mut self.rng, self.simulation.from_office(), &mut self.box_had);
                 self.carry(End::Box, index);
@@ -43,6 +48,7 @@ impl Generator {
                 let index = next_frame(&mut self.rng, self.simulation.from_cab(), &mut self.office_had);
                 self.carry(End::Office, index);
             }
+            2 if self.rng.chance(batches) => self.batch(),
             2 => self.issue(),
             3 => self.resend(),
             4 => self.open(),
@@ -90,6 +96,7 @@ impl Generator {
 
     fn open_or_issue(&mut self) {
         match self.simulation.office() {
+            Office::Open(_) if self.rng.chance(40) => self.page(),
             Office::Open(_) => self.issue(),
             _ => self.open(),
         }
@@ -139,17 +146,20 @@ impl Generator {
     }
 
     pub(super) fn issue(&mut self) {
+        let line = self.order();
+        self.emit(line);
+    }
+
+    /// The line that issues an order, or an item of a batch.
+    pub(super) fn order(&mut self) -> Vec<u8> {
         let settings = self.simulation.office().settings().copied();
         if settings.is_some_and(|settings| !settings.master) && self.rng.chance(35) {
-            self.emit("command 02 01");
-            return;
+            return b"command 02 01".to_vec();
         }
         if self.rng.chance(55) {
             let most = self.rng.pick(&[17, 17, 18, 40, 255, 300]);
             let (command, data) = traffic::command(&mut self.rng, most);
-            let line = lines::hex(&mut self.rng, "command", &[&[command], &data[..]].concat());
-            self.emit(line);
-            return;
+            return lines::hex(&mut self.rng, "command", &[&[command], &data[..]].concat());
         }
         let level = settings.map_or(0, |settings| settings.backlight);
         let target = u16::from_le_bytes([self.rng.byte(), self.rng.byte()]);
@@ -163,7 +173,7 @@ impl Generator {
                 (self.rng.pick(&["raise", "lower"]), step)
             }
         };
-        self.emit(format!("{word} {step}"));
+        format!("{word} {step}").into_bytes()
     }
 
     fn resend(&mut self) {
@@ -185,7 +195,7 @@ impl Generator {
 }
 
 /// The number of the next frame to deliver: mostly in order, some lost, repeated, late.
-fn next_frame(rng: &mut Rng, log: &Log, had: &mut u64) -> u64 {
+pub(super) fn next_frame(rng: &mut Rng, log: &Log, had: &mut u64) -> u64 {
     let written = log.written();
     match rng.weighted(&[60, 8, 22, 8, 2]) {
         0 if *had < written => {

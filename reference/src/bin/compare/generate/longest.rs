@@ -19,6 +19,10 @@ pub fn longest_session(rng: Rng) -> Script {
         if number == 65527 || (number % 8 == 0 && number < 65527) {
             generator.deliver_all();
         }
+        // With one more the window is full and the numbers are out at once.
+        if number > 65527 {
+            generator.page_beyond(65536 - number as usize);
+        }
         if number % 4096 == 100 {
             generator.emit("show");
             generator.emit("describe");
@@ -53,7 +57,80 @@ pub fn longest_session(rng: Rng) -> Script {
     generator.finish(true)
 }
 
+/// The same by pages of 8; the last orders are answered before the numbers run out.
+pub fn longest_by_pages(rng: Rng) -> Script {
+    let mut generator = Generator::new(rng, Kind::Allowed, usize::MAX);
+    for line in ["open 9", "to-box 1", "to-office 1", "room 512"] {
+        generator.emit(line);
+    }
+    for page in 1..=8190 {
+        let items: Vec<String> = (0..8).map(|_| generator.short_order()).collect();
+        generator.emit(format!("issue-all {}", items.join(" / ")));
+        generator.deliver_page();
+        if page % 512 == 13 {
+            generator.emit("show");
+            generator.look_at_kept();
+        }
+    }
+    // 65520 are issued. Pages of every length, answered or not, up to the last number and beyond it.
+    for count in [4, 7, 3, 1] {
+        for count in [9, 8, 7, 6, 5, 4, 3, 2, 1] {
+            generator.page_beyond(count);
+        }
+        generator.emit(format!("issue-all {}", vec!["raise 1"; count].join(" / ")));
+        if count != 3 {
+            generator.deliver_page();
+        }
+    }
+    for count in [1, 2, 8, 9, 0] {
+        generator.page_beyond(count);
+    }
+    generator.emit("show");
+    generator.finish(true)
+}
+
 impl Generator {
+    fn short_order(&mut self) -> String {
+        match self.rng.below(3) {
+            0 => format!("raise {}", self.rng.below(1000)),
+            1 => format!("lower {}", self.rng.below(1000)),
+            _ => format!("command 4C {:02X}", self.rng.below(4)),
+        }
+    }
+
+    /// A page that goes beyond the last number or beyond the window, plain, with an order that is too long,
+    /// or with too short an output; nothing where it would be issued.
+    fn page_beyond(&mut self, count: usize) {
+        let Some(now) = self.simulation.office().progress() else {
+            return;
+        };
+        let left = usize::from(u16::MAX - now.issued).min(8 - usize::from(now.issued - now.confirmed));
+        if count <= left {
+            return;
+        }
+        let mut items = vec!["raise 1".to_string(); count];
+        self.emit(format!("issue-all {}", items.join(" / ")));
+        let length = 14 * left + 37;
+        for length in [length - 1, length, 516] {
+            self.emit(format!("issue-all {} into {length}", items.join(" / ")));
+        }
+        for place in [left.saturating_sub(1), left, count - 1] {
+            items[place] = format!("command 00{}", " 00".repeat(17));
+            self.emit(format!("issue-all {} into 516", items.join(" / ")));
+            items[place] = "raise 1".to_string();
+        }
+    }
+
+    /// All unanswered orders in one run.
+    fn deliver_page(&mut self) {
+        let last = self.simulation.from_office().written();
+        let first = last + 1 - self.unanswered() as u64;
+        let indexes: Vec<String> = (first..=last).map(|index| index.to_string()).collect();
+        self.emit(format!("to-box-all {}", indexes.join(" ")));
+        let last = self.simulation.from_cab().written();
+        self.emit(format!("to-office {last}"));
+    }
+
     fn deliver_all(&mut self) {
         let now = self.simulation.office().progress();
         let unanswered = now.map_or(0, |now| u64::from(now.issued - now.confirmed));
