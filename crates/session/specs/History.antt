@@ -1,5 +1,5 @@
 -- The history, fed the calls alone: document 01, "Demand 3's list and book", Book.
--- With the ends it shares the types of changes, frames, settings and progress; Turn.antt's limits and kinds of turn; in Batch.antt what is lent, but for the test of
+-- With the ends it shares the types of changes, frames, settings and progress; the limits; in outcome the kinds of turn, and what is lent, but for the test of
 -- lengths, and the types of what a call gives; `decode`, `frame-limit`, `fresh` and `too-long`; `apply`, which of the ends only the office uses; and the calls, their fold
 -- and `encode` in Calls.antt. The rules, their stages and the refusals' numbers are told anew.
 use Prim.Native.Nat.{ℕ, _+_, _-_, _*_}
