@@ -5,7 +5,7 @@ use mathlib.Core.List.{List}
 use Rattle.outcome.specs.Batch.{Outcome}
 use Rattle.session.specs.declared.Cab.{Cab}
 use Rattle.session.specs.declared.Office.{Office}
-use Rattle.session.specs.Calls.{at-cab, at-office}
+use Rattle.session.specs.OneOffice.{at-cab, at-its-office}
 use Rattle.frame_run.specs.View as frame_run
 use Rattle.frame_run.specs.declared.Answered.{Answered as RunAnswered}
 use Rattle.order_batch.specs.View as order_batch
@@ -15,7 +15,7 @@ use Rattle.batch_calls.specs.View.{Runs, answered}
 
 module _ (r : Answered) where
   pub batch-runs : (t : Outcome Office) (kept : Cab) (done : BatchAnswered) (before after : List ℕ) → order_batch.Gives t done before after →
-      r ≡ answered kept (done .office) (done .verdict) (done .parts) → Runs (at-office (record { cab = kept; office = t .state }) t) r before after
+      r ≡ answered kept (done .office) (done .verdict) (done .parts) → Runs (at-its-office (record { cab = kept; office = t .state }) t) r before after
   batch-runs t kept done before after given made =
       rw made (record {
         state-is = ap (λ (x : Office). record { cab = kept; office = x }) (given .state-is);

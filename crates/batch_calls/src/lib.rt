@@ -1,20 +1,21 @@
-// The batches of orders and runs of frames of demand 3's list, at the code's own box and office.
+// The batches of orders and runs of frames of demand 3's list, at the code's own box and at one office.
 use frame::Verdict;
 use outcome::OrderBatch;
 use outcome::Parts;
 use session::Cab;
-use session::Ends;
 use session::Office;
+use session::Pair;
 ghost use mathlib.Core.Path.{_≡_};
+ghost use mathlib.Core.Logic.{inl, inr};
 ghost use lib.ListN.{length};
 ghost use Rattle.outcome.specs.Batch.{orders-of};
 ghost use Rattle.session.specs.Calls as list;
-ghost use Rattle.session.specs.Calls.{ends-rules};
+ghost use Rattle.session.specs.OneOffice.{pair-rules};
 ghost use Rattle.batch_calls.specs.View as view;
 
 // The frames of all parts stand one after another at the start of the output.
 pub struct Answered {
-    pub ends: Ends,
+    pub ends: Pair,
     pub verdict: Verdict,
     pub parts: Parts,
 }
@@ -26,7 +27,7 @@ fn batch_answered(cab: Cab, done: order_batch::Answered) -> Answered
     let office = done.office;
     let parts = done.parts;
     Answered {
-        ends: Ends { cab, office },
+        ends: Pair { cab, office },
         verdict,
         parts,
     }
@@ -39,15 +40,15 @@ fn run_answered(office: Office, done: frame_run::Answered) -> Answered
     let cab = done.cab;
     let parts = done.parts;
     Answered {
-        ends: Ends { cab, office },
+        ends: Pair { cab, office },
         verdict: judged,
         parts,
     }
 }
 
 // A batch of orders at the office. The bytes are their data.
-pub fn issue_all(ends: Ends, batch: OrderBatch, bytes: &[u8], out: &mut [u8]) -> Answered
-    ensures { λ r. ⌜ view.Runs (ends-rules ends (list.issue-all (orders-of batch) (now (bytes .entry)) (length (now (out .entry))))) r (now (out .entry)) (now (out .exit)) ⌝ }
+pub fn issue_all(ends: Pair, batch: OrderBatch, bytes: &[u8], out: &mut [u8]) -> Answered
+    ensures { λ r. ⌜ view.Runs (pair-rules ends (inr (list.issue-all (orders-of batch) (now (bytes .entry)) (length (now (out .entry)))))) r (now (out .entry)) (now (out .exit)) ⌝ }
 {
     batch_answered(
         ends.cab,
@@ -56,8 +57,8 @@ pub fn issue_all(ends: Ends, batch: OrderBatch, bytes: &[u8], out: &mut [u8]) ->
 }
 
 // A run of frames at the box.
-pub fn box_frames(ends: Ends, lengths: &[usize], bytes: &[u8], out: &mut [u8]) -> Answered
-    ensures { λ r. ⌜ view.Runs (ends-rules ends (list.box-frames (now (lengths .entry)) (now (bytes .entry)) (length (now (out .entry))))) r (now (out .entry)) (now (out .exit)) ⌝ }
+pub fn box_frames(ends: Pair, lengths: &[usize], bytes: &[u8], out: &mut [u8]) -> Answered
+    ensures { λ r. ⌜ view.Runs (pair-rules ends (inl (list.box-frames (now (lengths .entry)) (now (bytes .entry)) (length (now (out .entry)))))) r (now (out .entry)) (now (out .exit)) ⌝ }
 {
     run_answered(
         ends.office,

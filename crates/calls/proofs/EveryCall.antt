@@ -3,6 +3,7 @@ use native.Mathlib.Omega.{arith}
 use mathlib.Core.Path.{_≡_, refl, subst}
 use mathlib.Core.Bool.{Bool, true, false}
 use mathlib.Core.List.{List, [], _++_, append-nil}
+use mathlib.Core.Logic.{inl, inr}
 use lib.ListN.{length, replicate, length-append, length-take, length-replicate}
 use lib.Seq.{take-append-seam}
 use lib.Dec.{ltb}
@@ -27,11 +28,11 @@ placed orders = record { count = length orders; orders = orders ++ replicate (ba
 counted : ℕ → OrderBatch
 counted n = record { count = n; orders = replicate batch-limit blank }
 
-batch-as-code : (orders : List BatchOrder) (bytes : List ℕ) (room : ℕ) → AsCode (issue-all orders bytes room)
+batch-as-code : (orders : List BatchOrder) (bytes : List ℕ) (room : ℕ) → AsCode (inr (issue-all orders bytes room))
 unfolding blank placed counted
 batch-as-code orders bytes room = by-count (ltb batch-limit (length orders)) refl
   where
-    by-count : (t : Bool) → ltb batch-limit (length orders) ≡ t → AsCode (issue-all orders bytes room)
+    by-count : (t : Bool) → ltb batch-limit (length orders) ≡ t → AsCode (inr (issue-all orders bytes room))
     by-count true e =
         let many = ltb-true batch-limit (length orders) e in
         too-many (counted (length orders)) orders bytes room refl many
@@ -39,18 +40,18 @@ batch-as-code orders bytes room = by-count (ltb batch-limit (length orders)) ref
     by-count false e =
         let few = ltb-false batch-limit (length orders) e in
         let none-more : length orders - batch-limit ≡ 0 = omega arith in
-        subst (λ (l : List BatchOrder). AsCode (issue-all l bytes room)) (rw (take-append-seam, none-more, append-nil))
+        subst (λ (l : List BatchOrder). AsCode (inr (issue-all l bytes room))) (rw (take-append-seam, none-more, append-nil))
         (batch (placed orders) bytes room (rw (length-append, length-replicate) (omega arith)))
 
 pub every-call : EveryCall
-every-call (restart told) = single (Restart (record { 0 = told })) [] 0
-every-call (box-frame bytes room) = single BoxFrame bytes room
-every-call (open-session s room) = single (OpenSession (record { 0 = s })) [] room
-every-call (issue (command k d) room) = single (Issue (Command k)) d room
-every-call (issue (raise n) room) = single (Issue (Raise n)) [] room
-every-call (issue (lower n) room) = single (Issue (Lower n)) [] room
-every-call (resend n room) = single (Resend (record { 0 = n })) [] room
-every-call (reopen room) = single Reopen [] room
-every-call (office-frame bytes) = single OfficeFrame bytes 0
-every-call (issue-all orders bytes room) = batch-as-code orders bytes room
-every-call (box-frames lengths bytes room) = frames lengths bytes room
+every-call (inl (restart told)) = single (Restart (record { 0 = told })) [] 0
+every-call (inl (box-frame bytes room)) = single BoxFrame bytes room
+every-call (inr (open-session s room)) = single (OpenSession (record { 0 = s })) [] room
+every-call (inr (issue (command k d) room)) = single (Issue (Command k)) d room
+every-call (inr (issue (raise n) room)) = single (Issue (Raise n)) [] room
+every-call (inr (issue (lower n) room)) = single (Issue (Lower n)) [] room
+every-call (inr (resend n room)) = single (Resend (record { 0 = n })) [] room
+every-call (inr (reopen room)) = single Reopen [] room
+every-call (inr (office-frame bytes)) = single OfficeFrame bytes 0
+every-call (inr (issue-all orders bytes room)) = batch-as-code orders bytes room
+every-call (inl (box-frames lengths bytes room)) = frames lengths bytes room

@@ -7,9 +7,9 @@ use Rattle.frame.specs.Frame.{opening, welcome, order, ack, refuse}
 use Rattle.judging.specs.declared.End.the-variants.{Office as AtOffice}
 use Rattle.judging.specs.Decoding.{Decoded, a-fault, a-frame, decode}
 use Rattle.session.specs.declared.Cab.{Cab}
-use Rattle.session.specs.declared.Ends.{Ends}
+use Rattle.session.specs.declared.Pair.{Pair}
 use Rattle.session.specs.declared.Office.{Office}
-use Rattle.session.specs.Calls.{at-cab, at-office}
+use Rattle.session.specs.OneOffice.{at-cab, at-its-office}
 use Rattle.session.specs.Office.{received, judged, frame-in}
 use Rattle.outcome.specs.Batch.{Outcome, part-of, alone}
 use Rattle.outcome.specs.Turn.{Turn, silent, Realises}
@@ -36,14 +36,14 @@ no-frame o (a-frame (ack s k)) = refl
 no-frame o (a-frame (refuse s why)) = refl
 
 -- an outcome of one end, the other as it was
-abbrev cab-outcome : Outcome Cab → Office → Outcome Ends
+abbrev cab-outcome : Outcome Cab → Office → Outcome Pair
 cab-outcome t kept = at-cab (record { cab = t .state; office = kept }) t
 
-abbrev office-outcome : Outcome Office → Cab → Outcome Ends
-office-outcome t kept = at-office (record { cab = kept; office = t .state }) t
+abbrev office-outcome : Outcome Office → Cab → Outcome Pair
+office-outcome t kept = at-its-office (record { cab = kept; office = t .state }) t
 
 -- a single call's turn
-single-runs : {A : Type 0} (t : Turn A) (state : A) (ends : A → Ends) (verdict : Verdict) (len : ℕ) (before after : List ℕ) → Realises t state (refusal-of verdict) len before after →
+single-runs : {A : Type 0} (t : Turn A) (state : A) (ends : A → Pair) (verdict : Verdict) (len : ℕ) (before after : List ℕ) → Realises t state (refusal-of verdict) len before after →
     Runs (record { state = ends (t .state); refusal = none; parts = part-of t ∷ [] }) (record { ends = ends state; verdict = verdict; len = len }) before after
 single-runs t state ends verdict len before after given =
     record {

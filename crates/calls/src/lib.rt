@@ -1,15 +1,15 @@
-// Any single call of demand 3's list, run at the code's own box and office. Its batches and runs of frames are in batch_calls.
+// Any single call of demand 3's list, run at the code's own box and at one office. Its batches and runs of frames are in batch_calls.
 use frame::Ask;
 use frame::OrderNumber;
 use frame::SessionId;
 use frame::Verdict;
 use receiving::Received;
 use session::Cab;
-use session::Ends;
 use session::Office;
+use session::Pair;
 ghost use mathlib.Core.Path.{_≡_};
 ghost use lib.ListN.{length};
-ghost use Rattle.session.specs.Calls.{ends-rules};
+ghost use Rattle.session.specs.OneOffice.{pair-rules};
 ghost use Rattle.calls.specs.View as view;
 
 pub enum Call {
@@ -24,7 +24,7 @@ pub enum Call {
 
 // A frame of len bytes was written at the start of the output.
 pub struct Answered {
-    pub ends: Ends,
+    pub ends: Pair,
     pub verdict: Verdict,
     pub len: usize,
 }
@@ -33,7 +33,7 @@ fn after(cab: Cab, office: Office, verdict: Verdict, len: usize) -> Answered
     ensures { λ r. ⌜ r ≡ view.answered cab office verdict len ⌝ }
 {
     Answered {
-        ends: Ends { cab, office },
+        ends: Pair { cab, office },
         verdict,
         len,
     }
@@ -61,8 +61,8 @@ fn taken(cab: Cab, done: Received) -> Answered
 }
 
 // The bytes are a frame in, or a command's data; other calls do not look at them. A restart and a frame to the office leave out as it is.
-pub fn run(ends: Ends, call: Call, bytes: &[u8], out: &mut [u8]) -> Answered
-    ensures { λ r. ⌜ view.Runs (ends-rules ends (view.call-of call (now (bytes .entry)) (length (now (out .entry))))) r (now (out .entry)) (now (out .exit)) ⌝ }
+pub fn run(ends: Pair, call: Call, bytes: &[u8], out: &mut [u8]) -> Answered
+    ensures { λ r. ⌜ view.Runs (pair-rules ends (view.call-of call (now (bytes .entry)) (length (now (out .entry))))) r (now (out .entry)) (now (out .exit)) ⌝ }
 {
     match call {
         Call::Restart(session) => after(

@@ -31,23 +31,28 @@ and-frame : {row written : List (List ℕ)} {f : List ℕ} → List·Memᴰ f wr
 and-frame here rest g (List·Memᴰ·head e) = Memᴰ·cast e here
 and-frame here rest g (List·Memᴰ·tail m) = rest g m
 
+abbrev welcomed : List ℕ
+welcomed = welcome-bytes 7 0x00 0x00
+
 pub pieces-delivered : PiecesDelivered
 unfolding flatMap fits counted at-tag skipping at-length at-contents receive calls encode decode fault-told rest-fault last-fault field-fault contents-allowed settings-allowed length-right frame-in change-in block from-block offset magnitude sign box.frame-in box.received box.opened box.ordered box.ordered-here box.sent office.open-session office.issue-refusal office.issue office.welcomed office.received packet-of fields escape escape-byte checksum total run after start inside feed-at judge after-length after-data perform-found perform-offered write-register lookup access apply has-escape
 pieces-delivered =
     record {
       supposed =
           call (omega arith, λ _. List·Memᴰ·not-nil)
-          (call (record { row = open-bytes ∷ []; rest = drop 5 (wrapped open-bytes); joined = refl; each = and-frame last no-frame })
-          (call (record { row = open-bytes ∷ []; rest = []; joined = refl; each = and-frame last no-frame })
-          (call (record { row = welcome-bytes ∷ []; rest = []; joined = refl; each = and-frame last no-frame })
+          (call (record { row = open-bytes 7 ∷ []; rest = drop 5 (wrapped (open-bytes 7)); joined = refl; each = and-frame last no-frame })
+          (call (record { row = open-bytes 7 ∷ []; rest = []; joined = refl; each = and-frame last no-frame })
+          (call (record { row = welcomed ∷ []; rest = drop 9 (wrapped welcomed); joined = refl; each = and-frame last no-frame })
+          (call (record { row = welcomed ∷ []; rest = []; joined = refl; each = and-frame last no-frame })
+          (call (record { row = welcomed ∷ []; rest = []; joined = refl; each = and-frame last no-frame })
           (call (omega arith) (call (omega arith)
           (call (record {
-            row = open-bytes ∷ order-bytes 1 ∷ order-bytes 2 ∷ [];
-            rest = drop 9 (wrapped (order-bytes 2));
+            row = open-bytes 7 ∷ order-bytes 7 1 ∷ order-bytes 7 2 ∷ [];
+            rest = drop 9 (wrapped (order-bytes 7 2));
             joined = refl;
             each = and-frame (List·Memᴰ·tail (List·Memᴰ·tail last)) (and-frame (List·Memᴰ·tail last) (and-frame last no-frame));
           })
           (call refl
-          (call (record { row = order-bytes 2 ∷ []; rest = []; joined = refl; each = and-frame last no-frame }) tt))))))));
+          (call (record { row = order-bytes 7 2 ∷ []; rest = []; joined = refl; each = and-frame last no-frame }) tt))))))))));
       delivers = refl;
     }

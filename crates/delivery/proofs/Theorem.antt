@@ -10,13 +10,12 @@ use Rattle.link.specs.Encoding.{encode}
 use Rattle.link.proofs.FrameTheorems.{encode-short}
 use Rattle.wrapping.specs.Reading.{given}
 use Rattle.wrapping.specs.Theorems.{Wrappable}
-use Rattle.session.specs.declared.Ends.{Ends}
-use Rattle.session.specs.Calls.{Call, restart, box-frame, open-session, issue, resend, reopen, office-frame, issue-all, box-frames, state-after, first-ends, ends-rules, Log, first-log, log-after, AllowedFrom}
+use Rattle.session.specs.Calls.{restart, box-frame, box-frames, office-frame, Call, at-box, at-office, state-after, Ends, first-ends, ends-rules, Log, first-log, log-after, AllowedFrom}
 use Rattle.session.specs.History.{History, first-history}
 use Rattle.session.proofs.Invariant.{Safe, safe-first}
 use Rattle.session.proofs.Refinement.{EndsAlike, first-ends-alike}
 use Rattle.session.proofs.Theorem.{follows, demand-3}
-use Rattle.session.proofs.Tools.{Decodes}
+use Rattle.session.proofs.Tools.{Decodes, updated-each}
 use Rattle.delivery.specs.Calls.{ByteCall, whole, box-bytes, office-bytes, Incoming, Arrivals, first-arrivals, with-piece, arrivals-with}
 use Rattle.delivery.specs.Calls.{arrivals-after, frames, delivered-by, delivered-from, delivered, Begins, SupposedOf, SupposedFrom, Supposed}
 use Rattle.delivery.specs.Claim.{Demand3Delivered}
@@ -44,16 +43,17 @@ allowed-append : (xs ys : List Call) (e : Ends) (l : Log) → AllowedFrom e l xs
 allowed-append [] ys e l first second = second
 allowed-append (x ∷ xs) ys e l (permitted, first) second = (permitted, allowed-append xs ys (ends-rules e x .state) _ first second)
 
-box-frames-allowed : (fs : List (List ℕ)) (room : ℕ) (e : Ends) (l : Log) → ((f : List ℕ) → List·Memᴰ f fs → List·Memᴰ f (l .from-office)) →
-    AllowedFrom e l (map (λ f. box-frame f room) fs)
+box-frames-allowed : (fs : List (List ℕ)) (room : ℕ) (e : Ends) (l : Log) → ((f : List ℕ) → List·Memᴰ f fs → List·Memᴰ f (l .from-offices)) →
+    AllowedFrom e l (map (λ f. at-box (box-frame f room)) fs)
 box-frames-allowed [] room e l each = tt
 box-frames-allowed (f ∷ fs) room e l each =
-    (each f (List·Memᴰ·head refl), box-frames-allowed fs room (ends-rules e (box-frame f room) .state) _ (λ g m. each g (List·Memᴰ·tail m)))
+    (each f (List·Memᴰ·head refl), box-frames-allowed fs room (ends-rules e (at-box (box-frame f room)) .state) _ (λ g m. each g (List·Memᴰ·tail m)))
 
-office-frames-allowed : (fs : List (List ℕ)) (e : Ends) (l : Log) → ((f : List ℕ) → List·Memᴰ f fs → List·Memᴰ f (l .from-box)) → AllowedFrom e l (map office-frame fs)
-office-frames-allowed [] e l each = tt
-office-frames-allowed (f ∷ fs) e l each =
-    (each f (List·Memᴰ·head refl), office-frames-allowed fs (ends-rules e (office-frame f) .state) _ (λ g m. each g (List·Memᴰ·tail m)))
+office-frames-allowed : (fs : List (List ℕ)) (i : ℕ) (e : Ends) (l : Log) → ((f : List ℕ) → List·Memᴰ f fs → List·Memᴰ f (l .from-box)) →
+    AllowedFrom e l (map (λ f. at-office i (office-frame f)) fs)
+office-frames-allowed [] i e l each = tt
+office-frames-allowed (f ∷ fs) i e l each =
+    (each f (List·Memᴰ·head refl), office-frames-allowed fs i (ends-rules e (at-office i (office-frame f)) .state) _ (λ g m. each g (List·Memᴰ·tail m)))
 
 -- ---- a piece at an end
 
@@ -66,45 +66,43 @@ module _ (i : Incoming) (piece : List ℕ) (written : List (List ℕ)) (fits : (
 
 -- ---- a call of a list, and the whole list
 
+-- whole or begun frames at every end
+pub record AllBegun (a : Arrivals) : Type 0 where
+  box : Begun (a .box)
+  offices : (i : ℕ) → Begun (a .offices i)
+
 record Arrived (e : Ends) (l : Log) (calls : List Call) (a : Arrivals) : Type 0 where
   allowed : AllowedFrom e l calls
-  box : Begun (a .box)
-  office : Begun (a .office)
+  begun : AllBegun a
 
-module _ (e : Ends) (h : History) (l : Log) (safe : Safe h l) (a : Arrivals) (box : Begun (a .box)) (office : Begun (a .office)) where
+module _ (e : Ends) (h : History) (l : Log) (safe : Safe h l) (a : Arrivals) (begun : AllBegun a) where
   arrives : (c : ByteCall) → SupposedOf e l a c → Arrived e l (delivered-by a c) (arrivals-with a c)
-  arrives (whole (restart told)) permitted = record { allowed = (permitted, tt); box = begun-start; office = office }
-  arrives (whole (box-frame bytes room)) permitted = record { allowed = (permitted, tt); box = box; office = office }
-  arrives (whole (open-session s room)) permitted = record { allowed = (permitted, tt); box = box; office = office }
-  arrives (whole (issue c room)) permitted = record { allowed = (permitted, tt); box = box; office = office }
-  arrives (whole (resend n room)) permitted = record { allowed = (permitted, tt); box = box; office = office }
-  arrives (whole (reopen room)) permitted = record { allowed = (permitted, tt); box = box; office = office }
-  arrives (whole (office-frame bytes)) permitted = record { allowed = (permitted, tt); box = box; office = office }
-  arrives (whole (issue-all orders bytes room)) permitted = record { allowed = (permitted, tt); box = box; office = office }
-  arrives (whole (box-frames lengths bytes room)) permitted = record { allowed = (permitted, tt); box = box; office = office }
+  arrives (whole (at-box (restart told))) permitted = record { allowed = (permitted, tt); begun = record { box = begun-start; offices = begun .offices } }
+  arrives (whole (at-box (box-frame bytes room))) permitted = record { allowed = (permitted, tt); begun = begun }
+  arrives (whole (at-box (box-frames lengths bytes room))) permitted = record { allowed = (permitted, tt); begun = begun }
+  arrives (whole (at-office i c)) permitted = record { allowed = (permitted, tt); begun = begun }
   arrives (box-bytes piece room) begins =
-      let fits : (f : List ℕ) → List·Memᴰ f (l .from-office) → Wrappable f = λ f m. wrappable (safe .requests f m) in
+      let fits : (f : List ℕ) → List·Memᴰ f (l .from-offices) → Wrappable f = λ f m. wrappable (safe .requests f m) in
       record {
-        allowed = box-frames-allowed _ room e l (piece-written (a .box) piece (l .from-office) fits box begins);
-        box = begun-piece (a .box) piece (l .from-office) fits box begins;
-        office = office;
+        allowed = box-frames-allowed _ room e l (piece-written (a .box) piece (l .from-offices) fits (begun .box) begins);
+        begun = record { box = begun-piece (a .box) piece (l .from-offices) fits (begun .box) begins; offices = begun .offices };
       }
-  arrives (office-bytes piece) begins =
+  arrives (office-bytes i piece) begins =
       let fits : (f : List ℕ) → List·Memᴰ f (l .from-box) → Wrappable f = λ f m. wrappable (safe .replies f m) in
+      let now = begun-piece (a .offices i) piece (l .from-box) fits (begun .offices i) begins in
       record {
-        allowed = office-frames-allowed _ e l (piece-written (a .office) piece (l .from-box) fits office begins);
-        box = box;
-        office = begun-piece (a .office) piece (l .from-box) fits office begins;
+        allowed = office-frames-allowed _ i e l (piece-written (a .offices i) piece (l .from-box) fits (begun .offices i) begins);
+        begun = record { box = begun .box; offices = updated-each (a .offices) i (with-piece (a .offices i) piece) (λ _ x. Begun x) now (λ j _. begun .offices j) };
       }
 
-all-arrive : (cs : List ByteCall) (e : Ends) (h : History) (l : Log) (a : Arrivals) → EndsAlike e h → Safe h l → Begun (a .box) → Begun (a .office) → SupposedFrom e l a cs →
+all-arrive : (cs : List ByteCall) (e : Ends) (h : History) (l : Log) (a : Arrivals) → EndsAlike e h → Safe h l → AllBegun a → SupposedFrom e l a cs →
     Arrived e l (delivered-from a cs) (arrivals-after a cs)
-all-arrive [] e h l a alike safe box office supposed = record { allowed = tt; box = box; office = office }
-all-arrive (c ∷ cs) e h l a alike safe box office (supposed, later) =
-    let one = arrives e h l safe a box office c supposed in
+all-arrive [] e h l a alike safe begun supposed = record { allowed = tt; begun = begun }
+all-arrive (c ∷ cs) e h l a alike safe begun (supposed, later) =
+    let one = arrives e h l safe a begun c supposed in
     let after = follows (delivered-by a c) e h l alike safe (one .allowed) in
-    let rest = all-arrive cs _ _ _ (arrivals-with a c) (after .alike) (after .safe) (one .box) (one .office) later in
-    record { allowed = allowed-append (delivered-by a c) _ e l (one .allowed) (rest .allowed); box = rest .box; office = rest .office }
+    let rest = all-arrive cs _ _ _ (arrivals-with a c) (after .alike) (after .safe) (one .begun) later in
+    record { allowed = allowed-append (delivered-by a c) _ e l (one .allowed) (rest .allowed); begun = rest .begun }
 
 -- a beginning of a list keeps to what the list keeps to
 supposed-take : (n : ℕ) (cs : List ByteCall) (e : Ends) (l : Log) (a : Arrivals) → SupposedFrom e l a cs → SupposedFrom e l a (take n cs)
@@ -113,7 +111,7 @@ supposed-take (suc n) [] e l a supposed = tt
 supposed-take (suc n) (c ∷ cs) e l a (supposed, later) = (supposed, supposed-take n cs _ _ (arrivals-with a c) later)
 
 arrive-first : (cs : List ByteCall) → Supposed cs → Arrived first-ends first-log (delivered cs) (arrivals-after first-arrivals cs)
-arrive-first cs = all-arrive cs first-ends first-history first-log first-arrivals first-ends-alike safe-first begun-start begun-start
+arrive-first cs = all-arrive cs first-ends first-history first-log first-arrivals first-ends-alike safe-first (record { box = begun-start; offices = λ _. begun-start })
 
 pub demand-3-delivered : Demand3Delivered
 demand-3-delivered cs supposed =
@@ -123,6 +121,6 @@ demand-3-delivered cs supposed =
     record {
       allowed = all .allowed;
       claim = demand-3 _ (all .allowed);
-      at-box = λ n. intact _ (part n .box);
-      at-office = λ n. intact _ (part n .office);
+      at-box = λ n. intact _ (part n .begun .box);
+      at-office = λ i n. intact _ (part n .begun .offices i);
     }

@@ -1,4 +1,5 @@
 -- Lists of calls in which frames arrive as bytes, the calls that these come to, and what such a list keeps to: document 02, Ask 1.
+-- Box and offices have a receiver each.
 use Prim.Native.Nat.{ℕ}
 use mathlib.Core.Path.{_≡_}
 use mathlib.Core.List.{List, [], _∷_, _++_, map, flatMap, List·Memᴰ}
@@ -6,17 +7,16 @@ use Rattle.wrapping.specs.declared.Receiver.{Receiver}
 use Rattle.wrapping.specs.Wrapping.{wrapped}
 use Rattle.wrapping.specs.Receiver.{fresh}
 use Rattle.wrapping.specs.Reading.{Handed, frame, refused, given}
-use Rattle.session.specs.declared.Ends.{Ends}
-use Rattle.session.specs.Calls.{Call, restart, box-frame, open-session, issue, resend, reopen, office-frame, issue-all, box-frames}
-use Rattle.session.specs.Calls.{answer-of, state-after, first-ends, ends-rules, Log, first-log, log-after, Permitted}
+use Rattle.session.specs.Calls.{restart, box-frame, box-frames, office-frame, Call, at-box, at-office}
+use Rattle.session.specs.Calls.{answer-of, state-after, Ends, first-ends, updated, ends-rules, Log, first-log, log-after, Permitted}
 
 pub data ByteCall : Type 0 where
   -- a call of 01's list
   whole : Call → ByteCall
   -- a piece for the box's receiver; each frame that it hands on is a frame in, with so many bytes lent for the answer
   box-bytes : List ℕ → ℕ → ByteCall
-  -- a piece for the office's receiver
-  office-bytes : List ℕ → ByteCall
+  -- a piece for the receiver of an office, by its number
+  office-bytes : ℕ → List ℕ → ByteCall
 
 -- ---- what arrives at each end
 
@@ -28,13 +28,13 @@ pub record Incoming : Type 0 where
 
 pub record Arrivals : Type 0 where
   pub box : Incoming
-  pub office : Incoming
+  pub offices : ℕ → Incoming
 
 abbrev pub started : Incoming
 started = record { receiver = fresh; given = []; handed = [] }
 
 abbrev pub first-arrivals : Arrivals
-first-arrivals = record { box = started; office = started }
+first-arrivals = record { box = started; offices = λ _. started }
 
 abbrev pub with-piece : Incoming → List ℕ → Incoming
 with-piece i piece =
@@ -43,17 +43,12 @@ with-piece i piece =
 
 -- a restart starts the box's receiver anew
 abbrev pub arrivals-with : Arrivals → ByteCall → Arrivals
-arrivals-with a (whole (restart told)) = record { box = started; office = a .office }
-arrivals-with a (whole (box-frame bytes room)) = a
-arrivals-with a (whole (open-session s room)) = a
-arrivals-with a (whole (issue c room)) = a
-arrivals-with a (whole (resend n room)) = a
-arrivals-with a (whole (reopen room)) = a
-arrivals-with a (whole (office-frame bytes)) = a
-arrivals-with a (whole (issue-all orders bytes room)) = a
-arrivals-with a (whole (box-frames lengths bytes room)) = a
-arrivals-with a (box-bytes piece room) = record { box = with-piece (a .box) piece; office = a .office }
-arrivals-with a (office-bytes piece) = record { box = a .box; office = with-piece (a .office) piece }
+arrivals-with a (whole (at-box (restart told))) = record { box = started; offices = a .offices }
+arrivals-with a (whole (at-box (box-frame bytes room))) = a
+arrivals-with a (whole (at-box (box-frames lengths bytes room))) = a
+arrivals-with a (whole (at-office i c)) = a
+arrivals-with a (box-bytes piece room) = record { box = with-piece (a .box) piece; offices = a .offices }
+arrivals-with a (office-bytes i piece) = record { box = a .box; offices = updated (a .offices) i (with-piece (a .offices i) piece) }
 
 abbrev pub arrivals-after : Arrivals → List ByteCall → Arrivals
 arrivals-after a [] = a
@@ -69,8 +64,8 @@ frames (refused n ∷ handed) = frames handed
 -- each frame that a receiver hands on is a frame in at its end
 abbrev pub delivered-by : Arrivals → ByteCall → List Call
 delivered-by a (whole c) = c ∷ []
-delivered-by a (box-bytes piece room) = map (λ f. box-frame f room) (frames (given (a .box .receiver) piece .handed))
-delivered-by a (office-bytes piece) = map office-frame (frames (given (a .office .receiver) piece .handed))
+delivered-by a (box-bytes piece room) = map (λ f. at-box (box-frame f room)) (frames (given (a .box .receiver) piece .handed))
+delivered-by a (office-bytes i piece) = map (λ f. at-office i (office-frame f)) (frames (given (a .offices i .receiver) piece .handed))
 
 abbrev pub delivered-from : Arrivals → List ByteCall → List Call
 delivered-from a [] = []
@@ -92,8 +87,8 @@ pub record Begins (bytes : List ℕ) (written : List (List ℕ)) : Type 0 where
 -- remains of it at a restart is lost. Other calls keep to 01's List.
 abbrev pub SupposedOf : Ends → Log → Arrivals → ByteCall → Type 0
 SupposedOf e l a (whole c) = Permitted l c (answer-of (ends-rules e c))
-SupposedOf e l a (box-bytes piece room) = Begins (a .box .given ++ piece) (l .from-office)
-SupposedOf e l a (office-bytes piece) = Begins (a .office .given ++ piece) (l .from-box)
+SupposedOf e l a (box-bytes piece room) = Begins (a .box .given ++ piece) (l .from-offices)
+SupposedOf e l a (office-bytes i piece) = Begins (a .offices i .given ++ piece) (l .from-box)
 
 abbrev pub SupposedFrom : Ends → Log → Arrivals → List ByteCall → Type 0
 SupposedFrom e l a [] = Unit {0}

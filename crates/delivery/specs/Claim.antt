@@ -26,7 +26,7 @@ pub record Delivered (cs : List ByteCall) : Type 0 where
   pub claim : Claim (delivered cs)
   -- after every call
   pub at-box : (n : ℕ) → Intact (arrivals-after first-arrivals (take n cs) .box)
-  pub at-office : (n : ℕ) → Intact (arrivals-after first-arrivals (take n cs) .office)
+  pub at-office : (i n : ℕ) → Intact (arrivals-after first-arrivals (take n cs) .offices i)
 
 -- It supposes that from each start or restart on a receiver stands where a tag should, as a fresh one does, and is given whole wrapped frames, cut anyhow.
 abbrev pub Demand3Delivered : Type 0

@@ -3,38 +3,41 @@
 use mathlib.Core.Path.{_≡_}
 use mathlib.Core.List.{List, [], _∷_, _++_}
 use lib.ListN.{take, drop}
-use Rattle.frame.specs.Frame.{raise}
 use Rattle.link.specs.View.{frame-limit}
 use Rattle.wrapping.specs.Wrapping.{wrapped}
-use Rattle.session.specs.Calls.{Call, restart, box-frame, open-session, issue, office-frame}
-use Rattle.session.specs.Tunnel.{open-bytes, welcome-bytes, order-bytes}
+use Rattle.session.specs.Calls.{restart, open-session, Call, at-box, at-office}
+use Rattle.session.specs.Tunnel.{open-bytes, welcome-bytes, order-bytes, to-box, to-office, raise-by-1000}
 use Rattle.delivery.specs.Calls.{ByteCall, whole, box-bytes, office-bytes, delivered, Supposed}
 
 abbrev pub pieces : List ByteCall
 pieces =
-    whole (open-session 7 frame-limit)
+    whole (at-office 1 (open-session 7 frame-limit))
     -- OPEN, with the tunnel in the middle of it
-    ∷ box-bytes (take 5 (wrapped open-bytes)) frame-limit
-    ∷ box-bytes (drop 5 (wrapped open-bytes)) frame-limit
-    ∷ office-bytes (wrapped welcome-bytes)
-    ∷ whole (issue (raise 1000) frame-limit)
-    ∷ whole (issue (raise 1000) frame-limit)
+    ∷ box-bytes (take 5 (wrapped (open-bytes 7))) frame-limit
+    ∷ box-bytes (drop 5 (wrapped (open-bytes 7))) frame-limit
+    -- WELCOME, half of it to another office first; the two receivers are not mixed
+    ∷ office-bytes 2 (take 9 (wrapped (welcome-bytes 7 0x00 0x00)))
+    ∷ office-bytes 1 (wrapped (welcome-bytes 7 0x00 0x00))
+    ∷ office-bytes 2 (drop 9 (wrapped (welcome-bytes 7 0x00 0x00)))
+    ∷ whole (raise-by-1000 1)
+    ∷ whole (raise-by-1000 1)
     -- one order and a half: the rest of it is lost with the restart
-    ∷ box-bytes (wrapped (order-bytes 1) ++ take 9 (wrapped (order-bytes 2))) frame-limit
-    ∷ whole (restart 7)
-    ∷ box-bytes (wrapped (order-bytes 2)) frame-limit
+    ∷ box-bytes (wrapped (order-bytes 7 1) ++ take 9 (wrapped (order-bytes 7 2))) frame-limit
+    ∷ whole (at-box (restart 7))
+    ∷ box-bytes (wrapped (order-bytes 7 2)) frame-limit
     ∷ []
 
 abbrev pub delivered-pieces : List Call
 delivered-pieces =
-    open-session 7 frame-limit
-    ∷ box-frame open-bytes frame-limit
-    ∷ office-frame welcome-bytes
-    ∷ issue (raise 1000) frame-limit
-    ∷ issue (raise 1000) frame-limit
-    ∷ box-frame (order-bytes 1) frame-limit
-    ∷ restart 7
-    ∷ box-frame (order-bytes 2) frame-limit
+    at-office 1 (open-session 7 frame-limit)
+    ∷ to-box (open-bytes 7)
+    ∷ to-office 1 (welcome-bytes 7 0x00 0x00)
+    ∷ to-office 2 (welcome-bytes 7 0x00 0x00)
+    ∷ raise-by-1000 1
+    ∷ raise-by-1000 1
+    ∷ to-box (order-bytes 7 1)
+    ∷ at-box (restart 7)
+    ∷ to-box (order-bytes 7 2)
     ∷ []
 
 pub record PiecesDelivered : Type 0 where

@@ -20,73 +20,74 @@ use Rattle.link.specs.View.{frame-limit}
 use Rattle.order.proofs.Keeps.{valid-short}
 use Rattle.order.proofs.Laws.{obeys}
 use Rattle.session.specs.declared.Cab.{Cab}
-use Rattle.session.proofs.Alike.{Alike, answered-alike, OutcomesAlike, refused-alike, AllAlike, none-alike, one-alike, turns-alike, cond-both, cond-or-not, same-test, eqb-sym}
+use Rattle.session.proofs.Alike.{Alike, answered-alike, OutcomesAlike, alone-alike, refused-alike, AllAlike, none-alike, one-alike, turns-alike, cond-both, cond-or-not, same-test, eqb-sym}
 use Rattle.session.proofs.Batches.{fits-sum, frames-judged, all-judged-singly}
 use Rattle.outcome.specs.Batch.{batch-limit, cut, Outcome}
-use Rattle.session.specs.Box.{cab-of, started, welcomed, acknowledged, opened-again, opened, sent, obeyed, ordered-here, ordered, received, judged, frame-in, frames-in}
-use Rattle.session.specs.History.{BoxHistory, restarted, with-taken, updated, rule-open, rule-order, rule-box-frame, frames-singly, rule-box-frames}
+use Rattle.session.specs.Box.{cab-of, welcomed, acknowledged, with-session, opened-again, opened, sent, obeyed, ordered-here, ordered, received, judged, frame-in, frames-in}
+use Rattle.session.specs.Calls.{BoxCall, restart, box-frame, box-frames, updated, box-rules}
+use Rattle.session.specs.History.{BoxHistory, with-session as with-opened, with-taken, rule-open, rule-order, rule-box-frame, frames-singly, rule-box-frames, rules-at-box}
 use Rattle.session.proofs.Tools.{updated-same, length-one-more}
-use Rattle.outcome.specs.Turn.{Turn, wrote, silent, refused, refused-by}
+use Rattle.outcome.specs.Turn.{Turn, wrote, refused, refused-by}
 
 -- histories and boxes that hold the settings of the controller κ; an open session is the highest
-abbrev history-of : Controller → ℕ → Option ℕ → (ℕ → Settings) → (ℕ → List Change) → BoxHistory
-history-of κ highest session opened taken = record { highest = highest; session = session; settings = κ .settings; opened = opened; taken = taken }
+abbrev history-of : Controller → ℕ → Option ℕ → List ℕ → (ℕ → Settings) → (ℕ → List Change) → BoxHistory
+history-of κ highest session row opened taken =
+    record { highest = highest; session = session; settings = κ .settings; since-restart = row; opened = opened; taken = taken }
 
 pub data CabAlike : Cab → BoxHistory → Type 0 where
-  closed : {κ : Controller} {highest count : ℕ} {initial : ℕ → Settings} {taken : ℕ → List Change} → Ready κ →
-      CabAlike (cab-of κ highest false count) (history-of κ highest none initial taken)
-  active : {κ : Controller} {highest : ℕ} {initial : ℕ → Settings} {taken : ℕ → List Change} → Ready κ →
-      CabAlike (cab-of κ highest true (length (taken highest))) (history-of κ highest (some highest) initial taken)
+  closed : {κ : Controller} {highest count : ℕ} {row : List ℕ} {initial : ℕ → Settings} {taken : ℕ → List Change} → Ready κ →
+      CabAlike (cab-of κ highest false count) (history-of κ highest none row initial taken)
+  active : {κ : Controller} {highest : ℕ} {row : List ℕ} {initial : ℕ → Settings} {taken : ℕ → List Change} → Ready κ →
+      CabAlike (cab-of κ highest true (length (taken highest))) (history-of κ highest (some highest) row initial taken)
 
 abbrev pub BoxAlike : Turn Cab → Turn BoxHistory → Type 0
 BoxAlike t u = Alike CabAlike t u
 
-pub restart-alike : (b : BoxHistory) (told : ℕ) → BoxAlike (silent (started told)) (silent (restarted b told))
-restart-alike b told = answered-alike (closed fresh-ready)
-
 -- ---- OPEN
 
-newly-opened : (κ : Controller) (initial : ℕ → Settings) (taken : ℕ → List Change) (s : ℕ) → Ready κ →
-    CabAlike (cab-of κ s true 0) (history-of κ s (some s) initial (updated taken s []))
-newly-opened κ initial taken s ready =
-    subst (λ (n : ℕ). CabAlike (cab-of κ s true n) (history-of κ s (some s) initial (updated taken s [])))
+newly-opened : (κ : Controller) (row : List ℕ) (initial : ℕ → Settings) (taken : ℕ → List Change) (s : ℕ) → Ready κ →
+    CabAlike (cab-of κ s true 0) (history-of κ s (some s) row initial (updated taken s []))
+newly-opened κ row initial taken s ready =
+    subst (λ (n : ℕ). CabAlike (cab-of κ s true n) (history-of κ s (some s) row initial (updated taken s [])))
     (ap length (updated-same taken s [])) (active ready)
 
 -- OPEN of the open session
-again-alike : (κ : Controller) (highest : ℕ) (initial : ℕ → Settings) (taken : ℕ → List Change) → Ready κ → (s : ℕ) → highest ≡ s →
+again-alike : (κ : Controller) (highest : ℕ) (row : List ℕ) (initial : ℕ → Settings) (taken : ℕ → List Change) → Ready κ → (s : ℕ) → highest ≡ s →
     let c = cab-of κ highest true (length (taken highest)) in
-    let b = history-of κ highest (some highest) initial taken in
+    let b = history-of κ highest (some highest) row initial taken in
     BoxAlike (cond (eqb (length (taken highest)) 0) (welcomed c) (acknowledged c))
     (cond (eqb (length (taken s)) 0) (wrote b (welcome s (b .settings))) (wrote b (ack s (length (taken s)))))
-again-alike κ highest initial taken ready s e =
+again-alike κ highest row initial taken ready s e =
     rw (← e) (cond-both BoxAlike (eqb (length (taken highest)) 0) (λ _. answered-alike (active ready)) (λ _. answered-alike (active ready)))
+
+-- OPEN above the highest
+higher-alike : {c : Cab} {b : BoxHistory} → CabAlike c b → (s : ℕ) → BoxAlike (welcomed (with-session c s)) (wrote (with-opened b s) (welcome s (b .settings)))
+higher-alike (closed {κ} {taken = taken} ready) s = answered-alike (newly-opened κ _ _ taken s ready)
+higher-alike (active {κ} {taken = taken} ready) s = answered-alike (newly-opened κ _ _ taken s ready)
 
 open-alike : {c : Cab} {b : BoxHistory} → CabAlike c b → (s : ℕ) → BoxAlike (opened c s) (rule-open b s)
 unfolding opened opened-again rule-open
-open-alike (closed {κ} {highest} {count} {initial} {taken} ready) s =
-    cond-both BoxAlike (ltb highest s)
-    (λ _. answered-alike (newly-opened κ _ taken s ready))
-    (λ _. answered-alike (closed ready))
-open-alike (active {κ} {highest} {initial} {taken} ready) s =
-    cond-both BoxAlike (ltb highest s)
-    (λ _. answered-alike (newly-opened κ _ taken s ready))
+open-alike (closed {highest = highest} {count = count} {row = row} ready) s =
+    cond-both BoxAlike (ltb highest s) (λ _. higher-alike (closed {highest = highest} {count = count} {row = row} ready) s) (λ _. answered-alike (closed ready))
+open-alike (active {κ} {highest} {row} {initial} {taken} ready) s =
+    cond-both BoxAlike (ltb highest s) (λ _. higher-alike (active {highest = highest} {row = row} ready) s)
     (λ _. rw (eqb-sym s highest) (cond-both BoxAlike (eqb highest s)
-    (λ e. again-alike κ highest initial taken ready s (eqb-true highest s e))
+    (λ e. again-alike κ highest row initial taken ready s (eqb-true highest s e))
     (λ _. answered-alike (active ready))))
 
 -- ---- ORDER
 
 -- the next order, run: the controller comes to what the change means
-taken-alike : (κ : Controller) (highest : ℕ) (initial : ℕ → Settings) (taken : ℕ → List Change) (n : ℕ) (change : Change) → Ready κ → ValidChange change → n ≡ length (taken highest) + 1 →
-    CabAlike (cab-of (obeyed κ change) highest true n) (with-taken (history-of κ highest (some highest) initial taken) highest change)
+taken-alike : (κ : Controller) (highest : ℕ) (row : List ℕ) (initial : ℕ → Settings) (taken : ℕ → List Change) (n : ℕ) (change : Change) → Ready κ → ValidChange change → n ≡ length (taken highest) + 1 →
+    CabAlike (cab-of (obeyed κ change) highest true n) (with-taken (history-of κ highest (some highest) row initial taken) highest change)
 unfolding sent
-taken-alike κ highest initial taken n change ready valid next =
+taken-alike κ highest row initial taken n change ready valid next =
     let obeyed-well = obeys κ change ready (valid-short (κ .settings .backlight) change valid) in
     let more = updated taken highest (taken highest ++ (change ∷ [])) in
     let count : length (more highest) ≡ n = ap length (updated-same taken highest (taken highest ++ (change ∷ []))) ∙ length-one-more (taken highest) change ∙ sym next in
-    subst (λ (m : ℕ). CabAlike (cab-of (obeyed κ change) highest true m) (with-taken (history-of κ highest (some highest) initial taken) highest change)) count
+    subst (λ (m : ℕ). CabAlike (cab-of (obeyed κ change) highest true m) (with-taken (history-of κ highest (some highest) row initial taken) highest change)) count
     (subst (λ (σ : Settings). CabAlike (cab-of (obeyed κ change) highest true (length (more highest)))
-    (record { highest = highest; session = some highest; settings = σ; opened = initial; taken = more }))
+    (record { highest = highest; session = some highest; settings = σ; since-restart = row; opened = initial; taken = more }))
     (obeyed-well .1) (active (obeyed-well .0)))
 
 next-test : (n k : ℕ) → eqb (n - k) 1 ≡ eqb n (k + 1)
@@ -96,27 +97,27 @@ next-test n k =
     (λ e. eq-eqb (n - k) 1 (omega (arith, eqb-true n (k + 1) e)))
 
 -- ORDER of the open session
-here-alike : (κ : Controller) (highest : ℕ) (initial : ℕ → Settings) (taken : ℕ → List Change) (n : ℕ) (change : Change) → Ready κ → ValidChange change → (s : ℕ) → highest ≡ s →
+here-alike : (κ : Controller) (highest : ℕ) (row : List ℕ) (initial : ℕ → Settings) (taken : ℕ → List Change) (n : ℕ) (change : Change) → Ready κ → ValidChange change → (s : ℕ) → highest ≡ s →
     let c = cab-of κ highest true (length (taken highest)) in
-    let b = history-of κ highest (some highest) initial taken in
+    let b = history-of κ highest (some highest) row initial taken in
     BoxAlike (ordered-here c n change)
     (cond (leb n (length (taken s))) (wrote b (ack s (length (taken s))))
     (cond (eqb n (length (taken s) + 1)) (wrote (with-taken b s change) (ack s n))
     (refused-by b s 7)))
 unfolding ordered-here
-here-alike κ highest initial taken n change ready valid s e =
+here-alike κ highest row initial taken n change ready valid s e =
     rw (← e) (cond-both BoxAlike (leb n (length (taken highest))) (λ _. answered-alike (active ready))
     (λ _. rw (next-test n (length (taken highest))) (cond-both BoxAlike (eqb n (length (taken highest) + 1))
-    (λ next. answered-alike (taken-alike κ highest initial taken n change ready valid (eqb-true n (length (taken highest) + 1) next)))
+    (λ next. answered-alike (taken-alike κ highest row initial taken n change ready valid (eqb-true n (length (taken highest) + 1) next)))
     (λ _. answered-alike (active ready)))))
 
 order-alike : {c : Cab} {b : BoxHistory} → CabAlike c b → (s n : ℕ) (change : Change) → ValidChange change →
     BoxAlike (ordered c s n change) (rule-order (b .session) b s n change)
 unfolding ordered rule-order
 order-alike (closed ready) s n change valid = answered-alike (closed ready)
-order-alike (active {κ} {highest} {initial} {taken} ready) s n change valid =
+order-alike (active {κ} {highest} {row} {initial} {taken} ready) s n change valid =
     rw (eqb-sym s highest) (cond-both BoxAlike (eqb highest s)
-    (λ e. here-alike κ highest initial taken n change ready valid s (eqb-true highest s e))
+    (λ e. here-alike κ highest row initial taken n change ready valid s (eqb-true highest s e))
     (λ _. answered-alike (active ready)))
 
 -- ---- any frame
@@ -138,10 +139,10 @@ frame-alike : {c : Cab} {b : BoxHistory} → CabAlike c b → (bytes : List ℕ)
     BoxAlike (judged c (decode Box bytes)) (rule-box-frame b (decode Box bytes))
 frame-alike a bytes valid = read-alike a (decode Box bytes) valid
 
-pub box-alike : {c : Cab} {b : BoxHistory} → CabAlike c b → (bytes : List ℕ) (room : ℕ) → ((f : Frame) → decode Box bytes ≡ a-frame f → Valid f) →
+framed-alike : {c : Cab} {b : BoxHistory} → CabAlike c b → (bytes : List ℕ) (room : ℕ) → ((f : Frame) → decode Box bytes ≡ a-frame f → Valid f) →
     BoxAlike (frame-in c bytes room) (cond (ltb room frame-limit) (refused b 1) (rule-box-frame b (decode Box bytes)))
 unfolding frame-in
-box-alike a bytes room valid = cond-both BoxAlike (ltb room frame-limit) (λ _. answered-alike a) (λ _. frame-alike a bytes valid)
+framed-alike a bytes room valid = cond-both BoxAlike (ltb room frame-limit) (λ _. answered-alike a) (λ _. frame-alike a bytes valid)
 
 -- ---- a run of frames
 
@@ -155,7 +156,7 @@ frames-alike a (f ∷ fs) valid =
     let first = frame-alike a f (valid f (List·Memᴰ·head refl)) in
     one-alike first (frames-alike (first .states) fs (λ g m. valid g (List·Memᴰ·tail m)))
 
-pub run-alike : {c : Cab} {b : BoxHistory} → CabAlike c b → (lengths bytes : List ℕ) (room : ℕ) → (frames-in c lengths bytes room .refusal ≡ none → EachValid (cut lengths bytes)) →
+run-alike : {c : Cab} {b : BoxHistory} → CabAlike c b → (lengths bytes : List ℕ) (room : ℕ) → (frames-in c lengths bytes room .refusal ≡ none → EachValid (cut lengths bytes)) →
     OutcomesAlike CabAlike (frames-in c lengths bytes room) (rule-box-frames b lengths bytes room)
 unfolding frames-in rule-box-frames
 run-alike {c} {b} a lengths bytes room =
@@ -167,3 +168,15 @@ run-alike {c} {b} a lengths bytes room =
   where
     P : Outcome Cab → Outcome BoxHistory → Type 0
     P t u = (t .refusal ≡ none → EachValid (cut lengths bytes)) → OutcomesAlike CabAlike t u
+
+-- ---- every call, where the frames in are valid
+
+abbrev pub FramesValid : Cab → BoxCall → Type 0
+FramesValid c (restart told) = Unit {0}
+FramesValid c (box-frame bytes room) = (f : Frame) → decode Box bytes ≡ a-frame f → Valid f
+FramesValid c (box-frames lengths bytes room) = frames-in c lengths bytes room .refusal ≡ none → EachValid (cut lengths bytes)
+
+pub box-alike : {c : Cab} {b : BoxHistory} → CabAlike c b → (call : BoxCall) → FramesValid c call → OutcomesAlike CabAlike (box-rules c call) (rules-at-box b call)
+box-alike a (restart told) _ = alone-alike (answered-alike (closed fresh-ready))
+box-alike a (box-frame bytes room) valid = alone-alike (framed-alike a bytes room valid)
+box-alike a (box-frames lengths bytes room) valid = run-alike a lengths bytes room valid

@@ -11,12 +11,18 @@ pub mod BoxSafe
 pub mod OfficeSafe
 pub mod BatchSafe
 pub mod Invariant
--- settlement: what the invariant says where the office says settled
+pub mod Later
+pub mod Row
+-- settlement: what the invariant says of an office's counts, and where it says settled
 pub mod Settlement
--- a list of calls that demand 3 speaks of
+-- when an office says over
+pub mod Over
+-- lists of calls that demand 3 speaks of
 pub mod Tunnel
 -- demand 1 at both ends
 pub mod Refusals
+-- what a program runs that takes one office at a time
+pub mod OneOffice
 -- batches and runs, part by part
 pub mod Singly
 pub mod Batches

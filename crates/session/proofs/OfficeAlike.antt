@@ -26,11 +26,12 @@ use Rattle.session.specs.declared.Order.{Order}
 use Rattle.session.specs.declared.Stage.{Stage as OfficeStage}
 use Rattle.session.specs.declared.Stage.the-variants.{Unopened, Awaiting, Live, Ended}
 use Rattle.outcome.specs.Batch.{batch-limit, data-lengths, changes, Outcome}
-use Rattle.session.proofs.Alike.{Alike, answered-alike, OutcomesAlike, refused-alike, AllAlike, none-alike, one-alike, turns-alike, first-refusals-alike, cond-both, cond-and, cond-or-not}
+use Rattle.session.proofs.Alike.{Alike, answered-alike, OutcomesAlike, alone-alike, refused-alike, AllAlike, none-alike, one-alike, turns-alike, first-refusals-alike, cond-both, cond-and, cond-or-not}
 use Rattle.session.proofs.Batches.{fits-sum, orders-singly, issue-each-singly}
-use Rattle.session.specs.History.{Stage, unopened, awaiting, live, ended, is-awaiting, is-live, BoxHistory, History, first-history}
-use Rattle.session.specs.History.{updated, orders, with-office, with-opening, with-welcome, with-issued}
-use Rattle.session.specs.History.{rule-opening, rule-issue, sent-again, rule-resend, rule-reopen, rule-welcome, rule-ack, rule-refuse, rule-office-frame, first-refusal, batch-unless, issued-singly, rule-issue-all, progress-at, progress}
+use Rattle.session.specs.Calls.{OfficeCall, open-session, issue, resend, reopen, office-frame, issue-all, updated, office-rules}
+use Rattle.session.specs.History.{Stage, unopened, awaiting, live, ended, is-awaiting, is-live, OfficeHistory, first-office}
+use Rattle.session.specs.History.{orders, with-opening, with-welcome, with-issued, with-confirmed}
+use Rattle.session.specs.History.{rule-opening, rule-issue, sent-again, rule-resend, rule-reopen, rule-welcome, rule-ack, rule-refuse, rule-office-frame, first-refusal, batch-unless, issued-singly, rule-issue-all, progress-at, progress, rules-at-office}
 use Rattle.session.specs.Office as office
 use Rattle.session.specs.Office.{order-of, no-order, empty-window, office-of, never, with-order, issue-unless, kept-change, received, judged}
 use Rattle.session.proofs.Tools.{updated-same, length-one-more, getElem?-below, getElem?-append, getElem?-last}
@@ -68,7 +69,7 @@ pub record Backed (window : List Order) (l : List Change) (confirmed : ℕ) : Ty
   pub sized : length window ≡ window-limit
   pub holds : Holds window l confirmed
 
--- ---- the office beside the history
+-- ---- the office beside its history
 
 abbrev pub stage-of : Stage → OfficeStage
 stage-of unopened = Unopened
@@ -88,188 +89,177 @@ awaiting-of awaiting = refl
 awaiting-of live = refl
 awaiting-of ended = refl
 
-abbrev pub office-with : History → List Order → Office
-office-with h window =
-    let o = h .office in
-    office-of (stage-of (o .stage)) (o .session) (o .settings) (length (orders h)) (o .confirmed) window
+abbrev pub office-with : OfficeHistory → List Order → Office
+office-with h window = office-of (stage-of (h .stage)) (h .session) (h .settings) (length (orders h)) (h .confirmed) window
 
--- the box's part is named, since no call at the office changes it
-pub data OfficeAlike : BoxHistory → Office → History → Type 0 where
-  backed : {h : History} {window : List Order} → Backed window (orders h) (h .office .confirmed) →
-      OfficeAlike (h .box) (office-with h window) h
+pub data OfficeAlike : Office → OfficeHistory → Type 0 where
+  backed : {h : OfficeHistory} {window : List Order} → Backed window (orders h) (h .confirmed) → OfficeAlike (office-with h window) h
 
-abbrev pub TurnAlike : BoxHistory → Turn Office → Turn History → Type 0
-TurnAlike box t u = Alike (OfficeAlike box) t u
+abbrev pub TurnAlike : Turn Office → Turn OfficeHistory → Type 0
+TurnAlike t u = Alike OfficeAlike t u
 
 none-held : {window : List Order} {l : List Change} → length window ≡ window-limit → length l ≡ 0 → Backed window l 0
 none-held sized count = record { sized = sized; holds = λ n above within. absurd (omega (arith, count)) }
 
-pub first-alike : OfficeAlike (first-history .box) never first-history
-first-alike = backed {h = first-history} {window = empty-window} (none-held refl refl)
+pub first-alike : OfficeAlike never first-office
+first-alike = backed {h = first-office} {window = empty-window} (none-held refl refl)
 
 -- ---- opening
 
-begun : (h : History) (s : ℕ) → OfficeAlike (h .box) (office-of Awaiting s fresh 0 0 empty-window) (with-opening h s)
+begun : (h : OfficeHistory) (s : ℕ) → OfficeAlike (office-of Awaiting s fresh 0 0 empty-window) (with-opening h s)
 begun h s =
     let count : length (updated (h .issued) s [] s) ≡ 0 = ap length (updated-same (h .issued) s []) in
-    subst (λ (n : ℕ). OfficeAlike (h .box) (office-of Awaiting s fresh n 0 empty-window) (with-opening h s)) count
+    subst (λ (n : ℕ). OfficeAlike (office-of Awaiting s fresh n 0 empty-window) (with-opening h s)) count
     (backed (none-held refl count))
 
-pub opening-alike : {box : BoxHistory} {x : Office} {h : History} → OfficeAlike box x h → (s room : ℕ) → TurnAlike box (office.open-session x s room) (rule-opening h s room)
+opening-alike : {x : Office} {h : OfficeHistory} → OfficeAlike x h → (s room : ℕ) → TurnAlike (office.open-session x s room) (rule-opening h s room)
 unfolding office.open-session rule-opening
 opening-alike (backed {h} b) s room =
-    cond-both (TurnAlike (h .box)) (eqb s 0) (λ _. answered-alike (backed b))
-    (λ _. cond-both (TurnAlike (h .box)) (ltb room frame-limit) (λ _. answered-alike (backed b))
+    cond-both TurnAlike (eqb s 0) (λ _. answered-alike (backed b))
+    (λ _. cond-both TurnAlike (ltb room frame-limit) (λ _. answered-alike (backed b))
     (λ _. answered-alike (begun h s)))
 
 -- ---- issuing
 
-issued-alike : (h : History) (window : List Order) (c : Change) → Backed window (orders h) (h .office .confirmed) → length (orders h) < h .office .confirmed + window-limit →
-    OfficeAlike (h .box) (with-order (office-with h window) c) (with-issued h c)
+issued-alike : (h : OfficeHistory) (window : List Order) (c : Change) → Backed window (orders h) (h .confirmed) → length (orders h) < h .confirmed + window-limit →
+    OfficeAlike (with-order (office-with h window) c) (with-issued h c)
 issued-alike h window c b room =
-    let o = h .office in
     let l = orders h in
-    let here : updated (h .issued) (o .session) (l ++ (c ∷ [])) (o .session) ≡ l ++ (c ∷ []) = updated-same (h .issued) (o .session) (l ++ (c ∷ [])) in
-    let count : length (updated (h .issued) (o .session) (l ++ (c ∷ [])) (o .session)) ≡ length l + 1 = ap length here ∙ length-one-more l c in
+    let here : updated (h .issued) (h .session) (l ++ (c ∷ [])) (h .session) ≡ l ++ (c ∷ []) = updated-same (h .issued) (h .session) (l ++ (c ∷ [])) in
+    let count : length (updated (h .issued) (h .session) (l ++ (c ∷ [])) (h .session)) ≡ length l + 1 = ap length here ∙ length-one-more l c in
     let after = set window (length l % window-limit) (order-of (length l + 1) c) in
-    subst (λ (n : ℕ). OfficeAlike (h .box) (office-of Live (o .session) (apply (o .settings) c) n (o .confirmed) after) (with-issued h c)) count
+    subst (λ (n : ℕ). OfficeAlike (office-of Live (h .session) (apply (h .settings) c) n (h .confirmed) after) (with-issued h c)) count
     (backed (record {
       sized = length-set window (length l % window-limit) (order-of (length l + 1) c) ∙ b .sized;
-      holds = rw here (holds-more l c window (o .confirmed) (b .sized) (b .holds) room);
+      holds = rw here (holds-more l c window (h .confirmed) (b .sized) (b .holds) room);
     }))
 
-pub issue-alike : {box : BoxHistory} {x : Office} {h : History} → OfficeAlike box x h → (c : Change) (room : ℕ) → TurnAlike box (office.issue x c room) (rule-issue h c room)
+issue-alike : {x : Office} {h : OfficeHistory} → OfficeAlike x h → (c : Change) (room : ℕ) → TurnAlike (office.issue x c room) (rule-issue h c room)
 unfolding office.issue office.issue-refusal rule-issue
 issue-alike (backed {h} {window} b) c room =
-    let Both : Option ℕ → Turn History → Type 0 = λ refusal u. TurnAlike (h .box) (issue-unless refusal (office-with h window) c) u in
-    rw (live-of (h .office .stage)) (cond-both Both (is-live (h .office .stage))
+    let Both : Option ℕ → Turn OfficeHistory → Type 0 = λ refusal u. TurnAlike (issue-unless refusal (office-with h window) c) u in
+    rw (live-of (h .stage)) (cond-both Both (is-live (h .stage))
     (λ _. cond-both Both (ltb room frame-limit) (λ _. answered-alike (backed b))
     (λ _. cond-both Both (too-long c) (λ _. answered-alike (backed b))
     (λ _. cond-both Both (eqb (length (orders h)) order-limit) (λ _. answered-alike (backed b))
-    (λ _. cond-both Both (leb window-limit (length (orders h) - h .office .confirmed)) (λ _. answered-alike (backed b))
-    (λ few. answered-alike (issued-alike h window c b (omega (arith, leb-false window-limit (length (orders h) - h .office .confirmed) few))))))))
+    (λ _. cond-both Both (leb window-limit (length (orders h) - h .confirmed)) (λ _. answered-alike (backed b))
+    (λ few. answered-alike (issued-alike h window c b (omega (arith, leb-false window-limit (length (orders h) - h .confirmed) few))))))))
     (λ _. answered-alike (backed b)))
 
 -- ---- issuing a batch
 
-orders-alike : {box : BoxHistory} {x : Office} {h : History} → OfficeAlike box x h → (cs : List Change) (room : ℕ) →
-    AllAlike (OfficeAlike box) (orders-singly x cs room) (issued-singly h cs room)
+orders-alike : {x : Office} {h : OfficeHistory} → OfficeAlike x h → (cs : List Change) (room : ℕ) →
+    AllAlike OfficeAlike (orders-singly x cs room) (issued-singly h cs room)
 orders-alike a [] room = none-alike
-orders-alike {box} {x} {h} a (c ∷ cs) room =
+orders-alike {x} {h} a (c ∷ cs) room =
     let first = issue-alike a c room in
     let t = office.issue x c room in
     let u = rule-issue h c room in
-    one-alike first (subst (λ (frame : Option Frame). AllAlike (OfficeAlike box) (orders-singly (t .state) cs (room - length (bytes-written t))) (issued-singly (u .state) cs (room - length (encoding-of frame))))
+    one-alike first (subst (λ (frame : Option Frame). AllAlike OfficeAlike (orders-singly (t .state) cs (room - length (bytes-written t))) (issued-singly (u .state) cs (room - length (encoding-of frame))))
     (first .same-frame) (orders-alike (first .states) cs (room - length (bytes-written t))))
 
-pub batch-alike : {box : BoxHistory} {x : Office} {h : History} → OfficeAlike box x h → (orders : List BatchOrder) (bytes : List ℕ) (room : ℕ) →
-    OutcomesAlike (OfficeAlike box) (office.issue-all x orders bytes room) (rule-issue-all h orders bytes room)
+batch-alike : {x : Office} {h : OfficeHistory} → OfficeAlike x h → (orders : List BatchOrder) (bytes : List ℕ) (room : ℕ) →
+    OutcomesAlike OfficeAlike (office.issue-all x orders bytes room) (rule-issue-all h orders bytes room)
 unfolding office.issue-all rule-issue-all
-batch-alike {box} {x} {h} a orders bytes room =
+batch-alike {x} {h} a orders bytes room =
     rw (cond-or-not, length-map, fits-sum (data-lengths orders) (length bytes), issue-each-singly) (cond-both P (ltb batch-limit (length orders)) (λ _. refused-alike a)
     (λ _. cond-both P (eqb (foldr _+_ 0 (data-lengths orders)) (length bytes))
-    (λ _. by-refusal (first-refusal us) (first-refusals-alike (OfficeAlike box) each))
+    (λ _. by-refusal (first-refusal us) (first-refusals-alike OfficeAlike each))
     (λ _. refused-alike a)))
   where
-    P : Outcome Office → Outcome History → Type 0
-    P t u = OutcomesAlike (OfficeAlike box) t u
+    P : Outcome Office → Outcome OfficeHistory → Type 0
+    P t u = OutcomesAlike OfficeAlike t u
 
     ts : List (Turn Office)
     ts = orders-singly x (changes orders bytes) room
 
-    us : List (Turn History)
+    us : List (Turn OfficeHistory)
     us = issued-singly h (changes orders bytes) room
 
-    each : AllAlike (OfficeAlike box) ts us
+    each : AllAlike OfficeAlike ts us
     each = orders-alike a (changes orders bytes) room
 
     by-refusal : (m : Option Told) → first-refusal ts ≡ m → P (batch-unless (first-refusal ts) x ts) (batch-unless m h us)
-    by-refusal none e = rw e (turns-alike (OfficeAlike box) each x h a)
+    by-refusal none e = rw e (turns-alike OfficeAlike each x h a)
     by-refusal (some told) e = rw e (refused-alike a)
 
 -- ---- sending again
 
 -- order n, by what the list has at its place: the window has the same, and neither has an order that was not issued
-sent-again-alike : (h : History) (window : List Order) (m : Option Change) (n room : ℕ) → OfficeAlike (h .box) (office-with h window) h → Holds window (orders h) (h .office .confirmed) →
-    h .office .confirmed < n → getElem? (orders h) (n - 1) ≡ m →
-    TurnAlike (h .box)
+sent-again-alike : (h : OfficeHistory) (window : List Order) (m : Option Change) (n room : ℕ) → OfficeAlike (office-with h window) h → Holds window (orders h) (h .confirmed) →
+    h .confirmed < n → getElem? (orders h) (n - 1) ≡ m →
+    TurnAlike
     (cond (leb n (length (orders h)))
-    (cond (ltb room frame-limit) (refused (office-with h window) 1) (wrote (office-with h window) (order (h .office .session) n (kept-change window n))))
+    (cond (ltb room frame-limit) (refused (office-with h window) 1) (wrote (office-with h window) (order (h .session) n (kept-change window n))))
     (refused (office-with h window) 13))
     (sent-again m h n room)
 unfolding sent-again
 sent-again-alike h window none n room a holds above e =
-    cond-cases (λ t. TurnAlike (h .box) t (refused h 13)) (leb n (length (orders h))) _ _
+    cond-cases (λ t. TurnAlike t (refused h 13)) (leb n (length (orders h))) _ _
     (λ within. absurd (Option·none-ne-some _ (sym e ∙ holds n above (leb-true n (length (orders h)) within))))
     (λ _. answered-alike a)
 sent-again-alike h window (some c) n room a holds above e =
     let inside : n - 1 < length (orders h) = getElem?-below (orders h) (n - 1) c e in
     let held : some (kept-change window n) ≡ some c = sym (holds n above (omega arith)) ∙ e in
-    cond-cases (λ t. TurnAlike (h .box) t (cond (ltb room frame-limit) (refused h 1) (wrote h (order (h .office .session) n c)))) (leb n (length (orders h))) _ _
-    (λ _. cond-both (TurnAlike (h .box)) (ltb room frame-limit) (λ _. answered-alike a)
-    (λ _. record { states = a; same-refusal = refl; same-frame = ap (λ (d : Change). some (order (h .office .session) n d)) (Option·some-injective _ _ held) }))
+    cond-cases (λ t. TurnAlike t (cond (ltb room frame-limit) (refused h 1) (wrote h (order (h .session) n c)))) (leb n (length (orders h))) _ _
+    (λ _. cond-both TurnAlike (ltb room frame-limit) (λ _. answered-alike a)
+    (λ _. record { states = a; same-refusal = refl; same-frame = ap (λ (d : Change). some (order (h .session) n d)) (Option·some-injective _ _ held) }))
     (λ beyond. absurd (omega (arith, leb-false n (length (orders h)) beyond)))
 
-pub resend-alike : {box : BoxHistory} {x : Office} {h : History} → OfficeAlike box x h → (n room : ℕ) → TurnAlike box (office.resend x n room) (rule-resend h n room)
+resend-alike : {x : Office} {h : OfficeHistory} → OfficeAlike x h → (n room : ℕ) → TurnAlike (office.resend x n room) (rule-resend h n room)
 unfolding office.resend rule-resend sent-again
 resend-alike (backed {h} {window} b) n room =
-    rw (live-of (h .office .stage)) (cond-both (TurnAlike (h .box)) (is-live (h .office .stage))
-    (λ _. cond-both (λ (t : Turn Office) (m : Option Change). TurnAlike (h .box) t (sent-again m h n room)) (ltb (h .office .confirmed) n)
+    rw (live-of (h .stage)) (cond-both TurnAlike (is-live (h .stage))
+    (λ _. cond-both (λ (t : Turn Office) (m : Option Change). TurnAlike t (sent-again m h n room)) (ltb (h .confirmed) n)
     (λ above. sent-again-alike h window (getElem? (orders h) (n - 1)) n room (backed b) (b .holds) (ltb-true _ n above) refl)
     (λ _. answered-alike (backed b)))
     (λ _. answered-alike (backed b)))
 
-pub reopen-alike : {box : BoxHistory} {x : Office} {h : History} → OfficeAlike box x h → (room : ℕ) → TurnAlike box (office.reopen x room) (rule-reopen h room)
+reopen-alike : {x : Office} {h : OfficeHistory} → OfficeAlike x h → (room : ℕ) → TurnAlike (office.reopen x room) (rule-reopen h room)
 unfolding office.reopen rule-reopen
 reopen-alike (backed {h} b) room =
-    rw (awaiting-of (h .office .stage)) (cond-both (TurnAlike (h .box)) (is-awaiting (h .office .stage))
-    (λ _. cond-both (TurnAlike (h .box)) (ltb room frame-limit) (λ _. answered-alike (backed b)) (λ _. answered-alike (backed b)))
+    rw (awaiting-of (h .stage)) (cond-both TurnAlike (is-awaiting (h .stage))
+    (λ _. cond-both TurnAlike (ltb room frame-limit) (λ _. answered-alike (backed b)) (λ _. answered-alike (backed b)))
     (λ _. answered-alike (backed b)))
 
 -- ---- frames in
 
-welcome-alike : {box : BoxHistory} {x : Office} {h : History} → OfficeAlike box x h → (s : ℕ) (σ : Settings) → OfficeAlike box (office.welcomed x s σ) (rule-welcome h s σ)
+welcome-alike : {x : Office} {h : OfficeHistory} → OfficeAlike x h → (s : ℕ) (σ : Settings) → OfficeAlike (office.welcomed x s σ) (rule-welcome h s σ)
 unfolding office.welcomed rule-welcome
 welcome-alike (backed {h} {window} b) s σ =
-    rw (awaiting-of (h .office .stage), cond-and) (cond-both (OfficeAlike (h .box)) (is-awaiting (h .office .stage))
-    (λ _. cond-both (OfficeAlike (h .box)) (eqb s (h .office .session)) (λ own. opened (eqb-true _ _ own)) (λ _. backed b))
+    rw (awaiting-of (h .stage), cond-and) (cond-both OfficeAlike (is-awaiting (h .stage))
+    (λ _. cond-both OfficeAlike (eqb s (h .session)) (λ own. rw (eqb-true s (h .session) own) opened) (λ _. backed b))
     (λ _. backed b))
   where
-    opened : s ≡ h .office .session → OfficeAlike (h .box) (office-of Live s σ 0 0 window) (with-welcome h σ)
-    opened own =
-        let count : length (updated (h .issued) (h .office .session) [] (h .office .session)) ≡ 0 = ap length (updated-same (h .issued) (h .office .session) []) in
-        subst (λ (x : Office). OfficeAlike (h .box) x (with-welcome h σ)) (λ i. office-of Live (sym own i) σ (count i) 0 window)
+    opened : OfficeAlike (office-of Live (h .session) σ 0 0 window) (with-welcome h σ)
+    opened =
+        let count : length (updated (h .issued) (h .session) [] (h .session)) ≡ 0 = ap length (updated-same (h .issued) (h .session) []) in
+        subst (λ (n : ℕ). OfficeAlike (office-of Live (h .session) σ n 0 window) (with-welcome h σ)) count
         (backed (none-held (b .sized) count))
 
-ack-alike : {box : BoxHistory} {x : Office} {h : History} → OfficeAlike box x h → (s k : ℕ) → OfficeAlike box (office.acknowledged x s k) (rule-ack h s k)
+ack-alike : {x : Office} {h : OfficeHistory} → OfficeAlike x h → (s k : ℕ) → OfficeAlike (office.acknowledged x s k) (rule-ack h s k)
 unfolding office.acknowledged rule-ack
 ack-alike (backed {h} {window} b) s k =
-    rw (live-of (h .office .stage), cond-and, cond-and, cond-and) (cond-both (OfficeAlike (h .box)) (is-live (h .office .stage))
-    (λ _. cond-both (OfficeAlike (h .box)) (eqb s (h .office .session))
-    (λ own. cond-both (OfficeAlike (h .box)) (ltb (h .office .confirmed) k)
-    (λ above. cond-both (OfficeAlike (h .box)) (leb k (length (orders h)))
-    (λ _. news (eqb-true _ _ own) (ltb-true _ k above)) (λ _. backed b))
+    rw (live-of (h .stage), cond-and, cond-and, cond-and) (cond-both OfficeAlike (is-live (h .stage))
+    (λ _. cond-both OfficeAlike (eqb s (h .session)) (λ own. cond-both OfficeAlike (ltb (h .confirmed) k)
+    (λ above. cond-both OfficeAlike (leb k (length (orders h)))
+    (λ _. rw (eqb-true s (h .session) own) (news (ltb-true _ k above))) (λ _. backed b))
     (λ _. backed b))
     (λ _. backed b))
     (λ _. backed b))
   where
-    news : s ≡ h .office .session → h .office .confirmed < k →
-        OfficeAlike (h .box) (office-of Live s (h .office .settings) (length (orders h)) k window) (with-office h live (h .office .settings) k)
-    news own above =
-        subst (λ (t : ℕ). OfficeAlike (h .box) (office-of Live t (h .office .settings) (length (orders h)) k window) (with-office h live (h .office .settings) k)) (sym own)
-        (backed (record { sized = b .sized; holds = λ n (higher : k < n) inside. b .holds n (omega arith) inside }))
+    news : h .confirmed < k → OfficeAlike (office-of Live (h .session) (h .settings) (length (orders h)) k window) (with-confirmed h k)
+    news above = backed {h = with-confirmed h k} (record { sized = b .sized; holds = λ n higher inside. b .holds n (omega arith) inside })
 
-refuse-alike : {box : BoxHistory} {x : Office} {h : History} → OfficeAlike box x h → (s r : ℕ) → OfficeAlike box (office.ended x s r) (rule-refuse h s r)
+refuse-alike : {x : Office} {h : OfficeHistory} → OfficeAlike x h → (s r : ℕ) → OfficeAlike (office.ended x s r) (rule-refuse h s r)
 unfolding office.ended rule-refuse
 refuse-alike (backed {h} b) s r =
-    let g = h .office .stage in
-    rw (awaiting-of g, live-of g, cond-and, cond-and) (cond-both (OfficeAlike (h .box)) (is-awaiting g || is-live g)
-    (λ _. cond-both (OfficeAlike (h .box)) (eqb s (h .office .session))
-    (λ _. cond-both (OfficeAlike (h .box)) (eqb r 5 || eqb r 6) (λ _. backed b) (λ _. backed b))
-    (λ _. backed b))
+    let g = h .stage in
+    rw (awaiting-of g, live-of g, cond-and, cond-and) (cond-both OfficeAlike (is-awaiting g || is-live g)
+    (λ _. cond-both OfficeAlike (eqb s (h .session)) (λ _. cond-both OfficeAlike (eqb r 5 || eqb r 6) (λ _. backed b) (λ _. backed b)) (λ _. backed b))
     (λ _. backed b))
 
-read-alike : {box : BoxHistory} {x : Office} {h : History} → OfficeAlike box x h → (m : Decoded) → TurnAlike box (judged x m) (rule-office-frame h m)
+read-alike : {x : Office} {h : OfficeHistory} → OfficeAlike x h → (m : Decoded) → TurnAlike (judged x m) (rule-office-frame h m)
 unfolding received rule-office-frame
 read-alike a (a-fault f) = answered-alike a
 read-alike a (a-frame (opening s)) = answered-alike a
@@ -278,25 +268,23 @@ read-alike a (a-frame (order s n c)) = answered-alike a
 read-alike a (a-frame (ack s k)) = answered-alike (ack-alike a s k)
 read-alike a (a-frame (refuse s r)) = answered-alike (refuse-alike a s r)
 
-pub frame-alike : {box : BoxHistory} {x : Office} {h : History} → OfficeAlike box x h → (bytes : List ℕ) → TurnAlike box (office.frame-in x bytes) (rule-office-frame h (decode AtOffice bytes))
-frame-alike a bytes = read-alike a (decode AtOffice bytes)
-
 -- ---- the progress
 
-progress-of : (h : History) (g : Stage) (window : List Order) → office.progress-at (stage-of g) (office-with h window) ≡ progress-at g h
+progress-of : (h : OfficeHistory) (g : Stage) (window : List Order) → office.progress-at (stage-of g) (office-with h window) ≡ progress-at g h
 progress-of h unopened window = refl
 progress-of h awaiting window = refl
 progress-of h live window = refl
 progress-of h ended window = refl
 
-pub same-progress : {box : BoxHistory} {x : Office} {h : History} → OfficeAlike box x h → office.progress x ≡ progress h
-same-progress (backed {h} {window} _) = progress-of h (h .office .stage) window
+pub same-progress : {x : Office} {h : OfficeHistory} → OfficeAlike x h → office.progress x ≡ progress h
+same-progress (backed {h} {window} _) = progress-of h (h .stage) window
 
--- ---- the box's part
+-- ---- every call
 
-pub same-box : {box : BoxHistory} {x : Office} {h : History} → OfficeAlike box x h → h .box ≡ box
-same-box (backed _) = refl
-
-pub other-box : {box : BoxHistory} {x : Office} {h : History} → OfficeAlike box x h → (b : BoxHistory) →
-    OfficeAlike b x (record { issued = h .issued; box = b; office = h .office })
-other-box (backed {h} b) box = backed {h = record { issued = h .issued; box = box; office = h .office }} b
+pub office-alike : {x : Office} {h : OfficeHistory} → OfficeAlike x h → (c : OfficeCall) → OutcomesAlike OfficeAlike (office-rules x c) (rules-at-office h c)
+office-alike a (open-session s room) = alone-alike (opening-alike a s room)
+office-alike a (issue c room) = alone-alike (issue-alike a c room)
+office-alike a (resend n room) = alone-alike (resend-alike a n room)
+office-alike a (reopen room) = alone-alike (reopen-alike a room)
+office-alike a (office-frame bytes) = alone-alike (read-alike a (decode AtOffice bytes))
+office-alike a (issue-all orders bytes room) = batch-alike a orders bytes room

@@ -18,7 +18,7 @@ use Rattle.judging.specs.declared.End.{End}
 use Rattle.judging.specs.Decoding.{a-frame, decode}
 use Rattle.judging.specs.Theorems.{reader}
 use Rattle.judging.proofs.Exact.{decode-encode}
-use Rattle.session.specs.History.{updated}
+use Rattle.session.specs.Calls.{updated}
 
 -- a test that fails does not hold
 pub impossible : {A : Type 0} → false ≡ true → A

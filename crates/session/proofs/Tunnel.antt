@@ -1,7 +1,7 @@
 -- The tunnel's lists of calls are allowed and end settled: computed.
 use Prim.Native.Nat.{ℕ}
 use mathlib.Core.Path.{refl, sym, subst}
-use mathlib.Core.List.{List, [], _∷_, List·Memᴰ, List·Memᴰ·head, List·Memᴰ·tail, List·Memᴰ·not-nil}
+use mathlib.Core.List.{List, [], _∷_, List·Memᴰ, List·Memᴰ·head, List·Memᴰ·tail, List·Memᴰ·not-nil, List·Memᴰ·eq-of-singleton}
 use native.Mathlib.Omega.{arith}
 use Rattle.frame.specs.Frame.{Change}
 use Rattle.packet.specs.Packet.{total, checksum, escape-byte, escape, fields, packet-of, has-escape}
@@ -17,7 +17,8 @@ use Rattle.session.specs.Box as box
 use Rattle.session.specs.Office as office
 use Rattle.outcome.specs.Batch.{fits}
 use Rattle.session.specs.Calls.{FitsChange}
-use Rattle.session.specs.Tunnel.{TunnelSettles, BatchTunnelSettles}
+use Rattle.session.specs.History.{rule-open, rule-order, rule-box-frame, rule-opening, rule-issue, rule-welcome, rule-ack, rule-refuse, rule-office-frame}
+use Rattle.session.specs.Tunnel.{TunnelSettles, BatchTunnelSettles, ReliefSettles}
 
 -- the last frame written, and the one before it
 pub last : {bytes : List ℕ} {frames : List (List ℕ)} → List·Memᴰ bytes (bytes ∷ frames)
@@ -82,3 +83,35 @@ batch-tunnel-settles =
       office-level = refl;
       box-level = refl;
     }
+
+pub relief-settles : ReliefSettles
+unfolding encode decode fault-told rest-fault last-fault field-fault contents-allowed settings-allowed length-right frame-in change-in block from-block offset magnitude sign box.frame-in box.received box.opened box.ordered box.ordered-here box.sent office.open-session office.issue-refusal office.issue office.welcomed office.acknowledged office.received packet-of fields escape escape-byte checksum total run after start inside feed-at judge after-length after-data perform-found perform-offered write-register lookup access apply has-escape office.ended rule-open rule-order rule-box-frame rule-opening rule-issue rule-welcome rule-ack rule-refuse rule-office-frame
+relief-settles =
+    record {
+      settles = record {
+        allowed =
+            call (omega arith, λ _. List·Memᴰ·not-nil)
+            (call last (call last
+            (call (omega arith) (call (omega arith) (call (omega arith)
+            (call (List·Memᴰ·tail before) (call last (call before
+            (call (omega arith, λ _ m. other-session m) (call (omega arith, λ _ m. other-session m)
+            (call last (call last (call last
+            (call (omega arith)
+            (call last (call (List·Memᴰ·tail before)
+            (call before (call last (call last tt)))))))))))))))))));
+        settled = refl;
+        same-session = refl;
+        issued = refl;
+        taken = refl;
+        office-level = refl;
+        box-level = refl;
+      };
+      overtaken = refl;
+      row = refl;
+      confirmed = refl;
+      waiting = refl;
+      over = refl;
+    }
+  where
+    other-session : List·Memᴰ {A = ℕ} 8 (7 ∷ []) → ⊥
+    other-session m = let e = List·Memᴰ·eq-of-singleton m in omega arith

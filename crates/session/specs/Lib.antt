@@ -4,7 +4,9 @@ pub mod Calls
 pub mod History
 pub mod Box
 pub mod Office
+pub mod Over
 pub mod Limits
 pub mod Tunnel
 pub mod Refusals
 pub mod Singly
+pub mod OneOffice

@@ -163,8 +163,7 @@ welcomed o s σ =
 unfoldable pub acknowledged : Office → ℕ → ℕ → Office
 acknowledged o s k =
     cond (is-live (o .stage))
-    (cond (eqb s (o .session .0))
-    (cond (ltb (o .confirmed .0) k)
+    (cond (eqb s (o .session .0)) (cond (ltb (o .confirmed .0) k)
     (cond (leb k (o .issued .0)) (office-of Live s (o .settings) (o .issued .0) k (o .window))
     o) o) o) o
 
@@ -172,9 +171,8 @@ acknowledged o s k =
 unfoldable pub ended : Office → ℕ → ℕ → Office
 ended o s r =
     cond (is-awaiting (o .stage) || is-live (o .stage))
-    (cond (eqb s (o .session .0))
-    (cond (eqb r 5 || eqb r 6) (with-stage o Ended)
-    o) o) o
+    (cond (eqb s (o .session .0)) (cond (eqb r 5 || eqb r 6) (with-stage o Ended) o) o)
+    o
 
 -- to a frame for the other end, which `decode` does not give here
 abbrev pub not-for-office : Office → Turn Office

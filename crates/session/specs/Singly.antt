@@ -8,22 +8,23 @@ use Rattle.base.specs.Refusal.{Told, plain}
 use Rattle.frame.specs.Frame.{Change}
 use Rattle.link.specs.View.{frame-limit}
 use Rattle.outcome.specs.declared.BatchOrder.{BatchOrder}
-use Rattle.session.specs.declared.Ends.{Ends}
+use Rattle.session.specs.declared.Cab.{Cab}
+use Rattle.session.specs.declared.Office.{Office}
 use Rattle.outcome.specs.Batch.{batch-limit, cut, data-lengths, changes, Outcome, refused-whole, bytes-of-parts}
-use Rattle.session.specs.Calls.{Call, box-frame, issue, issue-all, box-frames, Reply, Answer, answer-of, refusals, state-after, answers, ends-rules}
+use Rattle.session.specs.Calls.{BoxCall, box-frame, box-frames, OfficeCall, issue, issue-all, Reply, Answer, answer-of, refusals, state-after, answers, box-rules, office-rules}
 
 -- ---- the single calls: each is given the output that the earlier ones left
 
-abbrev pub room-left : ℕ → Outcome Ends → ℕ
+abbrev pub room-left : {A : Type 0} → ℕ → Outcome A → ℕ
 room-left room t = room - length (bytes-of-parts (t .parts))
 
-abbrev pub issued-singly : Ends → List Change → ℕ → List Call
-issued-singly e [] room = []
-issued-singly e (c ∷ cs) room = let t = ends-rules e (issue c room) in issue c room ∷ issued-singly (t .state) cs (room-left room t)
+abbrev pub issued-singly : Office → List Change → ℕ → List OfficeCall
+issued-singly o [] room = []
+issued-singly o (c ∷ cs) room = let t = office-rules o (issue c room) in issue c room ∷ issued-singly (t .state) cs (room-left room t)
 
-abbrev pub given-singly : Ends → List (List ℕ) → ℕ → List Call
-given-singly e [] room = []
-given-singly e (f ∷ fs) room = let t = ends-rules e (box-frame f room) in box-frame f room ∷ given-singly (t .state) fs (room-left room t)
+abbrev pub given-singly : Cab → List (List ℕ) → ℕ → List BoxCall
+given-singly c [] room = []
+given-singly c (f ∷ fs) room = let t = box-rules c (box-frame f room) in box-frame f room ∷ given-singly (t .state) fs (room-left room t)
 
 -- ---- what they give together
 
@@ -44,10 +45,10 @@ all-replies (a ∷ rest) = a .replies ++ all-replies rest
 abbrev pub joined : List Answer → Answer
 joined given = record { refusal = none; replies = all-replies given }
 
--- an outcome is that of these calls, one after another from the ends e
-pub record SameAs (e : Ends) (calls : List Call) (t : Outcome Ends) : Type 0 where
-  pub same-state : t .state ≡ state-after ends-rules e calls
-  pub same-answer : answer-of t ≡ joined (answers ends-rules e calls)
+-- an outcome is that of these calls, one after another from the state a
+pub record SameAs {A C : Type 0} (rules : A → C → Outcome A) (a : A) (calls : List C) (t : Outcome A) : Type 0 where
+  pub same-state : t .state ≡ state-after rules a calls
+  pub same-answer : answer-of t ≡ joined (answers rules a calls)
 
 -- ---- the two calls, from every state and whatever is lent
 
@@ -57,26 +58,26 @@ pub record Fits (lengths bytes : List ℕ) : Type 0 where
   pub sums : foldr _+_ 0 lengths ≡ length bytes
 
 -- a batch of orders with these data lengths, and the single calls that it comes to
-pub record BatchSingly (e : Ends) (lengths bytes : List ℕ) (singles : List Call) (batch : Outcome Ends) : Type 0 where
+pub record BatchSingly (o : Office) (lengths bytes : List ℕ) (singles : List OfficeCall) (batch : Outcome Office) : Type 0 where
   -- 2 before all else
-  pub misfit : (Fits lengths bytes → ⊥) → batch ≡ refused-whole e (plain 2)
+  pub misfit : (Fits lengths bytes → ⊥) → batch ≡ refused-whole o (plain 2)
   -- if any order would be refused, nothing is issued, and the refusal is the first one's
-  pub nothing : Fits lengths bytes → (told : Told) → first-told (answers ends-rules e singles) ≡ some told → batch ≡ refused-whole e told
-  pub all : Fits lengths bytes → first-told (answers ends-rules e singles) ≡ none → SameAs e singles batch
+  pub nothing : Fits lengths bytes → (told : Told) → first-told (answers office-rules o singles) ≡ some told → batch ≡ refused-whole o told
+  pub all : Fits lengths bytes → first-told (answers office-rules o singles) ≡ none → SameAs office-rules o singles batch
 
 -- a run of frames with these lengths, and the single calls that it comes to
-pub record RunSingly (e : Ends) (lengths bytes : List ℕ) (room : ℕ) (singles : List Call) (run : Outcome Ends) : Type 0 where
+pub record RunSingly (c : Cab) (lengths bytes : List ℕ) (room : ℕ) (singles : List BoxCall) (run : Outcome Cab) : Type 0 where
   -- 2 before all else
-  pub misfit : (Fits lengths bytes → ⊥) → run ≡ refused-whole e (plain 2)
+  pub misfit : (Fits lengths bytes → ⊥) → run ≡ refused-whole c (plain 2)
   -- output room is checked once, before any frame
-  pub output-short : Fits lengths bytes → room < frame-limit * length lengths → run ≡ refused-whole e (plain 1)
+  pub output-short : Fits lengths bytes → room < frame-limit * length lengths → run ≡ refused-whole c (plain 1)
   -- each frame is judged alone
-  pub each : Fits lengths bytes → frame-limit * length lengths ≤ room → SameAs e singles run
+  pub each : Fits lengths bytes → frame-limit * length lengths ≤ room → SameAs box-rules c singles run
 
 abbrev pub BatchesSingly : Type 0
-BatchesSingly = (e : Ends) (orders : List BatchOrder) (bytes : List ℕ) (room : ℕ) →
-    BatchSingly e (data-lengths orders) bytes (issued-singly e (changes orders bytes) room) (ends-rules e (issue-all orders bytes room))
+BatchesSingly = (o : Office) (orders : List BatchOrder) (bytes : List ℕ) (room : ℕ) →
+    BatchSingly o (data-lengths orders) bytes (issued-singly o (changes orders bytes) room) (office-rules o (issue-all orders bytes room))
 
 abbrev pub RunsSingly : Type 0
-RunsSingly = (e : Ends) (lengths bytes : List ℕ) (room : ℕ) →
-    RunSingly e lengths bytes room (given-singly e (cut lengths bytes) room) (ends-rules e (box-frames lengths bytes room))
+RunsSingly = (c : Cab) (lengths bytes : List ℕ) (room : ℕ) →
+    RunSingly c lengths bytes room (given-singly c (cut lengths bytes) room) (box-rules c (box-frames lengths bytes room))

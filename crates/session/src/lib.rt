@@ -50,8 +50,8 @@ pub enum Progress {
     Over,
 }
 
-// Both ends of the link.
-pub struct Ends {
+// A box and one office.
+pub struct Pair {
     pub cab: Cab,
     pub office: Office,
 }

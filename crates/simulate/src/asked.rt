@@ -84,18 +84,24 @@ pub(crate) enum Said {
 pub(crate) enum Task {
     Many(u16),
     Room(usize),
-    Fresh,
     Bus(Heard),
     Restart(SessionId),
     // In pieces of so many bytes.
     Stream(Holder, usize),
 }
 
+// What concerns the offices that are not in use too.
+pub(crate) enum OfficesTask {
+    // The office of this number.
+    Use(usize),
+    Fresh,
+}
+
 // What a batch of orders, or a run of frames, is made of.
 pub(crate) enum Several {
     Orders,
     Frames,
-    // Frames that the office wrote.
+    // Frames that the offices wrote.
     Carried,
     // Lengths and bytes apart.
     Cut,
@@ -106,6 +112,7 @@ pub(crate) enum Action {
     // The arguments stand in the line.
     Several(Several),
     Task(Task),
+    Offices(OfficesTask),
     Say(Said),
 }
 

@@ -23,7 +23,7 @@ use judging::End;
 use outcome::BATCH_LIMIT;
 use outcome::Part;
 use outcome::Parts;
-use session::Ends;
+use session::Pair;
 
 // What stands behind the line's first word.
 fn behind_word(arrow: usize, line: &Page) -> &[u8] {
@@ -31,7 +31,7 @@ fn behind_word(arrow: usize, line: &Page) -> &[u8] {
 }
 
 pub(crate) fn perform(
-    ends: Ends,
+    ends: Pair,
     notes: Notes,
     asked: Several,
     line: &Page,
@@ -52,14 +52,14 @@ pub(crate) fn perform(
     run(ends, notes, frames, &mut *memory, &mut *out)
 }
 
-fn wrong(ends: Ends, mut notes: Notes, fault: Fault, out: &mut Output) -> Called {
+fn wrong(ends: Pair, mut notes: Notes, fault: Fault, out: &mut Output) -> Called {
     notes.gathered = print::wrong(&mut *out, notes.gathered, notes.line, fault);
     Called { ends, notes }
 }
 
 // issue-all
 fn issue(
-    ends: Ends,
+    ends: Pair,
     notes: Notes,
     orders: OrdersRead,
     memory: &mut Memory,
@@ -89,7 +89,7 @@ fn issue(
 
 // box-all, to-box-all, box-cut
 fn run(
-    ends: Ends,
+    ends: Pair,
     notes: Notes,
     frames: FramesRead,
     memory: &mut Memory,
@@ -118,7 +118,7 @@ fn run(
     }
 }
 
-fn taken(ends: Ends, lengths: Lengths, count: usize, bytes: &[u8], out: &mut [u8]) -> Answered {
+fn taken(ends: Pair, lengths: Lengths, count: usize, bytes: &[u8], out: &mut [u8]) -> Answered {
     batch_calls::box_frames(ends, counted(&lengths, count), bytes, &mut *out)
 }
 

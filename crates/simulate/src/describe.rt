@@ -4,15 +4,15 @@ use crate::held;
 use crate::print;
 use crate::show;
 use session::Cab;
-use session::Ends;
 use session::Office;
+use session::Pair;
 use session::Stage;
 use settings::Settings;
 use settings::StatusBytes;
 use settings::Switches;
 
 // describe
-pub(crate) fn describe(out: &mut Output, at: usize, ends: Ends) -> usize {
+pub(crate) fn describe(out: &mut Output, at: usize, ends: Pair) -> usize {
     let next = describe_box(&mut *out, at, ends.cab);
     describe_office(&mut *out, next, ends.office)
 }

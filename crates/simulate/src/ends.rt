@@ -13,16 +13,16 @@ use frame::Frame;
 use frame::SessionId;
 use judging::End;
 use link::FRAME_LIMIT;
-use session::Ends;
+use session::Pair;
 
 pub(crate) struct Called {
-    pub ends: Ends,
+    pub ends: Pair,
     pub notes: Notes,
 }
 
 // A call, with its answer printed and the frame that it wrote kept.
 pub(crate) fn call(
-    ends: Ends,
+    ends: Pair,
     notes: Notes,
     call: Call,
     asked: Asked,
@@ -90,14 +90,14 @@ pub(crate) fn noted(mut notes: Notes, active: bool, session: u32, gathered: usiz
 }
 
 // A restart of the box, which writes nothing.
-pub(crate) fn restarted(ends: Ends, session: SessionId) -> Ends {
+pub(crate) fn restarted(ends: Pair, session: SessionId) -> Pair {
     let mut none = [0; FRAME_LIMIT];
     let done = calls::run(ends, Call::Restart(session), b"", &mut none);
     done.ends
 }
 
 // issue-many N: so many orders to raise by 0, each confirmed at once by an ACK.
-pub(crate) fn many(start: Ends, n: u16) -> Ends {
+pub(crate) fn many(start: Pair, n: u16) -> Pair {
     let mut ends = start;
     let mut i: u16 = 0;
     while i < n {
@@ -107,13 +107,13 @@ pub(crate) fn many(start: Ends, n: u16) -> Ends {
     ends
 }
 
-fn issued(ends: Ends) -> Ends {
+fn issued(ends: Pair) -> Pair {
     let mut frame = [0; FRAME_LIMIT];
     let done = calls::run(ends, Call::Issue(Ask::Raise(0)), b"", &mut frame);
     done.ends
 }
 
-fn confirmed(ends: Ends) -> Ends {
+fn confirmed(ends: Pair) -> Pair {
     let office = ends.office;
     let ack = link::encode(Frame::ack(office.session, office.issued));
     let bytes = ack.bytes;

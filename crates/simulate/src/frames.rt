@@ -1,4 +1,4 @@
-// The last frames that each end has written, each in a slot of its length and its bytes: the box's, then the office's. Behind
+// The last frames that each end has written, each in a slot of its length and its bytes: the box's, then those of all offices. Behind
 // them stand the bytes that a line gives, and the frame that a receiver hands on.
 use crate::asked::Range;
 use crate::buffers::LINE_LIMIT;

@@ -9,6 +9,7 @@ use crate::asked::Fault;
 use crate::asked::Heard;
 use crate::asked::Holder;
 use crate::asked::Made;
+use crate::asked::OfficesTask;
 use crate::asked::Said;
 use crate::asked::Several;
 use crate::asked::Task;
@@ -17,6 +18,7 @@ use crate::buffers::Memory;
 use crate::carried;
 use crate::encoding;
 use crate::explain;
+use crate::offices::OFFICES;
 use crate::registers_named;
 use crate::streamed;
 use crate::world::Notes;
@@ -196,11 +198,12 @@ fn with_access(name: &[u8], s: &[u8], memory: &mut Memory) -> Asked {
 }
 
 fn without_bytes(name: &[u8], s: &[u8]) -> Asked {
-    match which(name, b"room issue-many fresh explain") {
+    match which(name, b"room issue-many use fresh explain") {
         0 => room(s),
         1 => many(s),
-        2 => arguments::ended(Action::Task(Task::Fresh), s),
-        3 => explain::asked(s),
+        2 => use_office(s),
+        3 => arguments::ended(Action::Offices(OfficesTask::Fresh), s),
+        4 => explain::asked(s),
         _ => told(name, s),
     }
 }
@@ -259,6 +262,20 @@ fn room(s: &[u8]) -> Asked {
             Action::Task(Task::Room(n as usize)),
             text::after_word(s),
         ),
+        NumberRead::Wrong(fault) => asked::wrong(fault),
+    }
+}
+
+// use N
+fn use_office(s: &[u8]) -> Asked {
+    match arguments::number_of(text::word(s), OFFICES as u64) {
+        NumberRead::Of(n) => {
+            if n == 0 {
+                return asked::wrong(Fault::OutOfRange);
+            }
+            let action = Action::Offices(OfficesTask::Use(n as usize));
+            arguments::ended(action, text::after_word(s))
+        }
         NumberRead::Wrong(fault) => asked::wrong(fault),
     }
 }

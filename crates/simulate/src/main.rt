@@ -1,4 +1,4 @@
-// Plays a script from standard input: a line is a call at the cab box, at the office or at a controller on the bench, or
+// Plays a script from standard input: a line is a call at the cab box, at an office or at a controller on the bench, or
 // a frame carried from one end to the other. It prints what each call answered, and whether that is what the line expects.
 mod arguments;
 mod asked;
@@ -14,6 +14,7 @@ mod frames;
 mod held;
 mod lending;
 mod lines;
+mod offices;
 mod packets;
 mod perform;
 mod print;
@@ -31,8 +32,8 @@ use buffers::Memory;
 use buffers::Output;
 use buffers::Page;
 use libc::STDIN_FILENO;
+use offices::Played;
 use world::Notes;
-use world::World;
 
 // How many bytes were read, and whether the input has ended.
 struct Input {
@@ -61,21 +62,23 @@ fn longer(mut notes: Notes, bytes: &[u8], at: usize, end: usize, line: &mut Page
 }
 
 // The bytes of one read: each line that ends among them is done. A call changes both ends in place, since the whole world is
-// large.
+// large; the offices that are not in use are larger still.
 fn read(
-    mut world: World,
+    played: Played,
     bytes: &[u8],
     line: &mut Page,
     memory: &mut Memory,
     out: &mut Output,
-) -> World {
+) -> Played {
+    let mut world = played.world;
+    let mut offices = played.offices;
     let mut at: usize = 0;
     while at < bytes.len() {
         let end = text::find(bytes, at, b'\n');
         let notes = longer(world.notes, bytes, at, end, &mut *line);
         world.notes = notes;
         if bytes.len() <= end {
-            return world;
+            return Played { world, offices };
         }
         let begun = whole::begun(notes, line, out);
         let asked = whole::asked(begun, line, &mut *memory);
@@ -106,6 +109,11 @@ fn read(
             Action::Task(task) => {
                 world = perform::perform(world, task, asked, &mut *memory, &mut *out);
             }
+            Action::Offices(task) => {
+                let done = offices::perform(Played { world, offices }, task, &mut *out);
+                world = done.world;
+                offices = done.offices;
+            }
             Action::Say(said) => {
                 let at = perform::say(&mut *out, world, said, asked, memory);
                 world.notes.gathered = at;
@@ -115,11 +123,11 @@ fn read(
         let next = std::num::wrapping_add_usize(end, 1);
         // never so: the test shows that the loop ends
         if next <= at {
-            return world;
+            return Played { world, offices };
         }
         at = next;
     }
-    world
+    Played { world, offices }
 }
 
 // At the end of the input one newline is read, since a last line may have none.
@@ -141,31 +149,33 @@ fn first(input: &Output, len: usize) -> &[u8] {
 }
 
 // One read. What it prints is written before the next one, so that whoever types sees each answer at once.
-fn turn(world: World, line: &mut Page, memory: &mut Memory, out: &mut Output) -> World {
+fn turn(played: Played, line: &mut Page, memory: &mut Memory, out: &mut Output) -> Played {
     let mut input = io::large_buffer();
     let got = read_input(&mut input);
-    let mut next = read(
-        world,
+    let next = read(
+        played,
         first(&input, got.len),
         &mut *line,
         &mut *memory,
         &mut *out,
     );
-    let at = whole::tally(next.notes, got.over, &mut *out);
+    let mut world = next.world;
+    let offices = next.offices;
+    let at = whole::tally(world.notes, got.over, &mut *out);
     let gathered = print::flush(out, at);
-    next.notes.gathered = gathered;
-    next.notes.over = got.over;
-    next
+    world.notes.gathered = gathered;
+    world.notes.over = got.over;
+    Played { world, offices }
 }
 
 // A proved loop has to end, and an input need not. So the reads are counted down, from a number that no run uses up.
 fn play(line: &mut Page, memory: &mut Memory, out: &mut Output) {
-    let mut world = world::first();
+    let mut played = offices::first();
     let mut reads = u64::MAX;
     while 0 < reads {
         reads -= 1;
-        world = turn(world, &mut *line, &mut *memory, &mut *out);
-        if world.notes.over {
+        played = turn(played, &mut *line, &mut *memory, &mut *out);
+        if played.world.notes.over {
             return;
         }
     }

@@ -20,7 +20,6 @@ use crate::packets;
 use crate::print;
 use crate::show;
 use crate::streams;
-use crate::world;
 use crate::world::Notes;
 use crate::world::World;
 use frame::SessionId;
@@ -37,7 +36,6 @@ pub(crate) fn perform(
     match task {
         Task::Many(n) => many(world, n, &mut *out),
         Task::Room(n) => room(world, n, &mut *out),
-        Task::Fresh => world::fresh(world::unwritten(ok(world.notes, &mut *out))),
         Task::Bus(heard) => bus(world, heard, asked::bytes(memory, asked.bytes), &mut *out),
         Task::Restart(session) => restart(world, session, &mut *out),
         Task::Stream(to, piece) => streams::stream(
@@ -51,7 +49,7 @@ pub(crate) fn perform(
     }
 }
 
-fn ok(mut notes: Notes, out: &mut Output) -> Notes {
+pub(crate) fn ok(mut notes: Notes, out: &mut Output) -> Notes {
     notes.gathered = print::ok(&mut *out, notes.gathered);
     notes
 }

@@ -2,14 +2,14 @@
 use crate::buffers::Output;
 use crate::print;
 use session::Cab;
-use session::Ends;
 use session::Office;
+use session::Pair;
 use session::Progress;
 use session::Stage;
 use settings::Settings;
 
 // show
-pub(crate) fn show(out: &mut Output, at: usize, ends: Ends) -> usize {
+pub(crate) fn show(out: &mut Output, at: usize, ends: Pair) -> usize {
     let next = show_box(&mut *out, at, ends.cab);
     show_office(&mut *out, next, ends.office)
 }

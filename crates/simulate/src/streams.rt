@@ -18,7 +18,7 @@ use crate::world::Receivers;
 use crate::world::World;
 use base::Written;
 use calls::Call;
-use session::Ends;
+use session::Pair;
 use wrapping::Event;
 use wrapping::Received;
 use wrapping::Receiver;
@@ -72,7 +72,7 @@ pub(crate) fn stream(
     world
 }
 
-fn begun(ends: Ends, notes: Notes, receiver: Receiver) -> Flow {
+fn begun(ends: Pair, notes: Notes, receiver: Receiver) -> Flow {
     Flow {
         called: Called { ends, notes },
         receiver,

@@ -2,14 +2,14 @@
 use bus::Controller;
 use frame::SessionId;
 use link::FRAME_LIMIT;
-use session::Ends;
+use session::Pair;
 use wrapping::Receiver;
 
 // The longest output that `room` lends.
 pub(crate) const ROOM_LIMIT: usize = 512;
 
 pub(crate) struct Notes {
-    // How many frames each end has written, and the highest session opened at the box.
+    // How many frames the box has written, how many all offices together, and the highest session opened at the box.
     pub box_frames: u64,
     pub office_frames: u64,
     pub opened: u32,
@@ -31,25 +31,25 @@ pub(crate) struct Notes {
     pub other: u64,
 }
 
-// Those on the bench and at each end.
+// Those on the bench, at the box and at the office in use.
 pub(crate) struct Receivers {
     pub bench: Receiver,
     pub cab: Receiver,
     pub office: Receiver,
 }
 
-// Both ends of the link, the controller on the bench, and the receivers.
+// The box and the office in use, the controller on the bench, and the receivers. The other offices are in offices.
 pub(crate) struct World {
-    pub ends: Ends,
+    pub ends: Pair,
     pub bench: Controller,
     pub receivers: Receivers,
     pub notes: Notes,
 }
 
-// Both ends, the bench and the receivers as at the start.
+// The box, the office in use, the bench and the receivers as at the start.
 pub(crate) fn fresh(notes: Notes) -> World {
     World {
-        ends: Ends {
+        ends: Pair {
             cab: starting::restarted(SessionId(0)),
             office: starting::never_opened(),
         },

@@ -3,10 +3,10 @@ use Rattle.simulate.proofs.play.Statement.{statement}
 use Rattle.simulate.proofs.play.Tie as tie
 
 abbrev Inv-loop : tie.InvT-loop
-Inv-loop line₀ memory₀ out₀ world₀ reads₀ line memory out world reads = Unit {0}
+Inv-loop line₀ memory₀ out₀ played₀ reads₀ line memory out played reads = Unit {0}
 
 abbrev μ-loop : tie.MeasureT-loop
-μ-loop line₀ memory₀ out₀ world₀ reads₀ line memory out world reads = reads
+μ-loop line₀ memory₀ out₀ played₀ reads₀ line memory out played reads = reads
 
 first-requires : tie.Need-first-requires Inv-loop μ-loop
 first-requires c κs = search needs

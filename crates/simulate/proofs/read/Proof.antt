@@ -4,10 +4,10 @@ use Rattle.simulate.proofs.read.Statement.{statement}
 use Rattle.simulate.proofs.read.Tie as tie
 
 abbrev Inv-loop : tie.InvT-loop
-Inv-loop world₀ bytes line₀ memory₀ out₀ at₀ world line memory out at = Unit {0}
+Inv-loop bytes line₀ memory₀ out₀ world₀ offices₀ at₀ line memory out world offices at = Unit {0}
 
 abbrev μ-loop : tie.MeasureT-loop
-μ-loop world₀ bytes line₀ memory₀ out₀ at₀ world line memory out at = 18446744073709551616 - at
+μ-loop bytes line₀ memory₀ out₀ world₀ offices₀ at₀ line memory out world offices at = 18446744073709551616 - at
 
 loop-holds : tie.Need-loop-holds Inv-loop μ-loop
 loop-holds c = search needs
@@ -47,6 +47,12 @@ perform-requires-2 c κs = search needs
 
 enum-known-action-4 : tie.Need-enum-known-action-4 Inv-loop μ-loop
 enum-known-action-4 c = search needs
+
+perform-requires-3 : tie.Need-perform-requires-3 Inv-loop μ-loop
+perform-requires-3 c κs = search needs
+
+enum-known-action-5 : tie.Need-enum-known-action-5 Inv-loop μ-loop
+enum-known-action-5 c = search needs
 
 say-requires : tie.Need-say-requires Inv-loop μ-loop
 say-requires c κs = search needs
@@ -88,6 +94,8 @@ read-spec =
     enum-known-action-3
     perform-requires-2
     enum-known-action-4
+    perform-requires-3
+    enum-known-action-5
     say-requires
     ended-requires
     wrapping-add-usize-requires
