@@ -9,6 +9,8 @@ mod parse;
 mod receive;
 mod show;
 
+use std::array;
+
 use crate::cab::{Cab, Refused};
 use crate::controller::Controller;
 use crate::office::Office;
@@ -21,19 +23,39 @@ pub use answer::{Answer, Heard, Hex, Judged};
 pub use log::Log;
 pub use parse::ParseError;
 
+pub const OFFICES: usize = 8;
+
+/// An office and the receiver beside it.
+#[derive(Clone, Debug)]
+struct Desk {
+    office: Office,
+    receiver: Receiver,
+}
+
 #[derive(Clone, Debug)]
 pub struct Simulation {
     cab: Cab,
-    office: Office,
+    desks: [Desk; OFFICES],
+    /// The place of the office that lines mean, from 0.
+    in_use: usize,
     bench: Controller,
     bench_receiver: Receiver,
     box_receiver: Receiver,
-    office_receiver: Receiver,
     from_cab: Log,
-    from_office: Log,
+    /// Of all offices together.
+    from_offices: Log,
     highest_opened: u32,
     room: usize,
     lines: u64,
+}
+
+impl Desk {
+    fn unused() -> Desk {
+        Desk {
+            office: Office::NeverOpened,
+            receiver: Receiver::new(),
+        }
+    }
 }
 
 impl Default for Simulation {
@@ -46,13 +68,13 @@ impl Simulation {
     pub fn new() -> Simulation {
         Simulation {
             cab: Cab::restarted(0),
-            office: Office::NeverOpened,
+            desks: array::from_fn(|_| Desk::unused()),
+            in_use: 0,
             bench: Controller::fresh(),
             bench_receiver: Receiver::new(),
             box_receiver: Receiver::new(),
-            office_receiver: Receiver::new(),
             from_cab: Log::default(),
-            from_office: Log::default(),
+            from_offices: Log::default(),
             highest_opened: 0,
             room: 37,
             lines: 0,
@@ -63,8 +85,18 @@ impl Simulation {
         &self.cab
     }
 
+    /// The office in use.
     pub fn office(&self) -> &Office {
-        &self.office
+        &self.desks[self.in_use].office
+    }
+
+    pub fn offices(&self) -> impl Iterator<Item = &Office> {
+        self.desks.iter().map(|desk| &desk.office)
+    }
+
+    /// The place of the office in use, from 0.
+    pub fn in_use(&self) -> usize {
+        self.in_use
     }
 
     pub fn bench(&self) -> &Controller {
@@ -79,16 +111,17 @@ impl Simulation {
         &self.box_receiver
     }
 
+    /// That of the office in use.
     pub fn office_receiver(&self) -> &Receiver {
-        &self.office_receiver
+        &self.desks[self.in_use].receiver
     }
 
     pub fn from_cab(&self) -> &Log {
         &self.from_cab
     }
 
-    pub fn from_office(&self) -> &Log {
-        &self.from_office
+    pub fn from_offices(&self) -> &Log {
+        &self.from_offices
     }
 
     pub fn room(&self) -> usize {
@@ -98,14 +131,19 @@ impl Simulation {
     /// Takes the next line, without its newline; an empty one has no answer.
     pub fn line(&mut self, line: &[u8]) -> Option<Answer> {
         self.lines += 1;
-        match parse(line, &self.from_cab, &self.from_office) {
+        match parse(line, &self.from_cab, &self.from_offices) {
             Ok(call) => call.map(|call| self.call(call)),
             Err(error) => Some(Answer::Invalid(self.lines, error)),
         }
     }
 
     fn call(&mut self, call: Call) -> Answer {
+        let room = self.room;
         match call {
+            Call::Use(place) => {
+                self.in_use = place;
+                Answer::Ok
+            }
             Call::Room(room) => {
                 self.room = room;
                 Answer::Ok
@@ -116,19 +154,19 @@ impl Simulation {
                 Answer::Ok
             }
             Call::Open(session) => {
-                let result = self.office.open(session, self.room);
+                let result = self.office_mut().open(session, room);
                 self.office_wrote(result)
             }
             Call::Reopen => {
-                let result = self.office.open_again(self.room);
+                let result = self.office().open_again(room);
                 self.office_wrote(result)
             }
             Call::Issue(order) => {
-                let result = self.office.issue(order, self.room);
+                let result = self.office_mut().issue(order, room);
                 self.office_wrote(result)
             }
             Call::Resend(number) => {
-                let result = self.office.send_again(number, self.room);
+                let result = self.office().send_again(number, room);
                 self.office_wrote(result)
             }
             Call::ToBox(frame) => self.frame_to_box(&frame),
@@ -153,9 +191,13 @@ impl Simulation {
             Call::Pieces(whose, pieces) => self.pieces(whose, &pieces),
             Call::Dropped => Answer::Dropped(self.bench_receiver.dropped()),
             Call::Explain(refusal) => Answer::Explained(refusal),
-            Call::Show => Answer::State([show::cab(&self.cab), show::office(&self.office)]),
-            Call::Describe => Answer::State([describe::cab(&self.cab), describe::office(&self.office)]),
+            Call::Show => Answer::State([show::cab(&self.cab), show::office(self.office())]),
+            Call::Describe => Answer::State([describe::cab(&self.cab), describe::office(self.office())]),
         }
+    }
+
+    fn office_mut(&mut self) -> &mut Office {
+        &mut self.desks[self.in_use].office
     }
 
     fn frame_to_box(&mut self, frame: &[u8]) -> Answer {
@@ -189,7 +231,7 @@ impl Simulation {
     }
 
     fn frame_to_office(&mut self, frame: &[u8]) -> Answer {
-        match self.office.frame_in(frame) {
+        match self.office_mut().frame_in(frame) {
             Ok(()) => Answer::Ok,
             Err(fault) => Answer::Refused(fault.into()),
         }
@@ -198,7 +240,7 @@ impl Simulation {
     fn office_wrote(&mut self, result: Result<Vec<u8>, Refusal>) -> Answer {
         match result {
             Ok(frame) => {
-                self.from_office.push(&frame);
+                self.from_offices.push(&frame);
                 Answer::Frame(frame)
             }
             Err(refusal) => Answer::Refused(refusal),

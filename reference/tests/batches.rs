@@ -1,28 +1,9 @@
 //! Batches of orders at the office and runs of frames at the box.
 
-use reference::script::{Answer, Simulation};
+mod playing;
 
-/// The line's answer as printed, its number aside.
-fn answer(simulation: &mut Simulation, line: &str) -> String {
-    let answer = simulation.line(line.as_bytes()).expect("each line is a call");
-    match (answer.to_string(), answer) {
-        (_, Answer::Invalid(_, error)) => error.to_string(),
-        (printed, _) => printed,
-    }
-}
-
-fn expect(simulation: &mut Simulation, lines: &[(&str, &str)]) {
-    for (line, expected) in lines {
-        assert_eq!(answer(simulation, line), *expected, "{line}");
-    }
-}
-
-fn run(simulation: &mut Simulation, lines: &[&str]) {
-    for line in lines {
-        let answer = answer(simulation, line);
-        assert!(answer.starts_with("ok"), "{line}: {answer}");
-    }
-}
+use playing::{answer, expect, run};
+use reference::script::Simulation;
 
 /// With session 3 open at both ends.
 fn open() -> Simulation {

@@ -25,9 +25,9 @@ impl Simulation {
     }
 
     fn issue_all(&mut self, orders: &[Order], room: usize) -> Result<Answer, Refusal> {
-        let frames = self.office.issue_all(orders, room)?;
+        let frames = self.office_mut().issue_all(orders, room)?;
         for frame in &frames {
-            self.from_office.push(frame);
+            self.from_offices.push(frame);
         }
         Ok(Answer::Frames(frames))
     }

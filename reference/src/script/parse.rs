@@ -3,6 +3,7 @@
 use std::collections::VecDeque;
 use std::fmt;
 
+use super::OFFICES;
 use super::log::Log;
 use crate::link::Order;
 use crate::packet::Way;
@@ -12,9 +13,11 @@ const LONGEST_LINE: usize = 4096;
 const MOST_ROOM: u64 = 512;
 const MOST_LENT: u64 = 516;
 const MOST_WRAP_ROOM: u64 = 128;
-const LONGEST_PIECE: u64 = 128;
+const LONGEST_PIECE: usize = 128;
 
 pub enum Call {
+    /// The place of an office, from 0.
+    Use(usize),
     Room(usize),
     Restart(Option<u32>),
     Open(u32),
@@ -25,9 +28,19 @@ pub enum Call {
     ToOffice(Vec<u8>),
     Many(Many, Option<usize>),
     Bus(Vec<u8>),
-    Packet { way: Way, id: u8, data: Vec<u8> },
-    Reply { asked: Way, bytes: Vec<u8> },
-    Wrap { room: usize, frame: Vec<u8> },
+    Packet {
+        way: Way,
+        id: u8,
+        data: Vec<u8>,
+    },
+    Reply {
+        asked: Way,
+        bytes: Vec<u8>,
+    },
+    Wrap {
+        room: usize,
+        frame: Vec<u8>,
+    },
     Stream(Receives, Vec<u8>),
     Pieces(Receives, Pieces),
     Dropped,
@@ -97,7 +110,7 @@ impl fmt::Display for ParseError {
 }
 
 /// The call of a line, if it has one; the logs have the frames that it may name.
-pub fn parse(line: &[u8], from_cab: &Log, from_office: &Log) -> Result<Option<Call>, ParseError> {
+pub fn parse(line: &[u8], from_cab: &Log, from_offices: &Log) -> Result<Option<Call>, ParseError> {
     if line.len() > LONGEST_LINE {
         return Err(ParseError::TooLong);
     }
@@ -106,6 +119,7 @@ pub fn parse(line: &[u8], from_cab: &Log, from_office: &Log) -> Result<Option<Ca
         return Ok(None);
     };
     let call = match first {
+        b"use" => Call::Use(words.office()?),
         b"room" => Call::Room(words.number(MOST_ROOM)? as usize),
         b"restart" if words.is_empty() => Call::Restart(None),
         b"restart" => Call::Restart(Some(words.number_u32()?)),
@@ -114,12 +128,12 @@ pub fn parse(line: &[u8], from_cab: &Log, from_office: &Log) -> Result<Option<Ca
         b"raise" | b"lower" | b"command" => Call::Issue(words.order(first)?),
         b"issue-all" => words.many(Words::orders)?,
         b"resend" => Call::Resend(words.number_u16()?),
-        b"to-box" => Call::ToBox(words.frame(from_office)?),
+        b"to-box" => Call::ToBox(words.frame(from_offices)?),
         b"to-office" => Call::ToOffice(words.frame(from_cab)?),
         b"box" => Call::ToBox(words.bytes()?),
         b"office" => Call::ToOffice(words.bytes()?),
         b"box-all" => words.many(Words::run)?,
-        b"to-box-all" => words.many(|words| words.written_run(from_office))?,
+        b"to-box-all" => words.many(|words| words.written_run(from_offices))?,
         b"box-cut" => words.many(Words::cut_run)?,
         b"bus" => Call::Bus(words.bytes()?),
         b"packet" => Call::Packet {
@@ -138,7 +152,7 @@ pub fn parse(line: &[u8], from_cab: &Log, from_office: &Log) -> Result<Option<Ca
         b"stream" => Call::Stream(Receives::Bench, words.bytes()?),
         b"stream-box" => Call::Stream(Receives::Box, words.bytes()?),
         b"stream-office" => Call::Stream(Receives::Office, words.bytes()?),
-        b"pieces-box" => Call::Pieces(Receives::Box, words.pieces(from_office)?),
+        b"pieces-box" => Call::Pieces(Receives::Box, words.pieces(from_offices)?),
         b"pieces-office" => Call::Pieces(Receives::Office, words.pieces(from_cab)?),
         b"dropped" => Call::Dropped,
         b"explain" => Call::Explain(words.refusal().ok_or(ParseError::NotARefusal)?),
@@ -191,6 +205,13 @@ impl<'a> Words<'a> {
         number
             .filter(|number| *number <= most)
             .ok_or(ParseError::OutOfRange)
+    }
+
+    fn number_from_1(&mut self, most: usize) -> Result<usize, ParseError> {
+        match self.number(most as u64)? {
+            0 => Err(ParseError::OutOfRange),
+            number => Ok(number as usize),
+        }
     }
 
     fn number_u32(&mut self) -> Result<u32, ParseError> {
@@ -285,15 +306,16 @@ impl<'a> Words<'a> {
         Ok(Many::ToBox { lengths, bytes })
     }
 
+    /// The place of an office that is named by its number.
+    fn office(&mut self) -> Result<usize, ParseError> {
+        Ok(self.number_from_1(OFFICES)? - 1)
+    }
+
     fn pieces(&mut self, log: &Log) -> Result<Pieces, ParseError> {
-        let frame = self.frame(log)?;
-        match self.number(LONGEST_PIECE)? {
-            0 => Err(ParseError::OutOfRange),
-            length => Ok(Pieces {
-                frame,
-                length: length as usize,
-            }),
-        }
+        Ok(Pieces {
+            frame: self.frame(log)?,
+            length: self.number_from_1(LONGEST_PIECE)?,
+        })
     }
 
     /// A refusal as an answer tells it; it takes all words that are left, whatever they are.

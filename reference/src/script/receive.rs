@@ -44,7 +44,7 @@ impl Simulation {
         match whose {
             Receives::Bench => &mut self.bench_receiver,
             Receives::Box => &mut self.box_receiver,
-            Receives::Office => &mut self.office_receiver,
+            Receives::Office => &mut self.desks[self.in_use].receiver,
         }
     }
 

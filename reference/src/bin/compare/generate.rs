@@ -6,15 +6,18 @@ mod faulty;
 mod hostile;
 mod link;
 mod longest;
+mod offices;
 mod pieces;
 mod runs;
 mod stream;
 
+use std::array;
 use std::collections::BTreeSet;
 
 use reference::link::End;
+use reference::office::Office;
 use reference::rng::Rng;
-use reference::script::{Answer, Simulation};
+use reference::script::{Answer, OFFICES, Simulation};
 
 use crate::lines;
 
@@ -61,18 +64,25 @@ struct Generator {
     wanted: usize,
     kind: Kind,
     pace: Pace,
+    /// How many offices take part, and the place of the first; now and then a line chooses another.
+    offices: usize,
+    first_office: usize,
     opened: BTreeSet<u32>,
     box_had: u64,
-    office_had: u64,
+    office_had: [u64; OFFICES],
     /// What is still to come of a wrapped frame that an end's receiver has in part.
     rest_for_box: Vec<u8>,
-    rest_for_office: Vec<u8>,
+    rest_for_office: [Vec<u8>; OFFICES],
 }
 
 pub fn script(mut rng: Rng, calls: usize) -> Script {
     let kind = [Kind::Allowed, Kind::Hostile, Kind::Bench, Kind::Mixed][rng.weighted(&[40, 36, 12, 12])];
     let final_newline = !rng.chance(20);
     let mut generator = Generator::new(rng, kind, calls);
+    generator.offices = generator.office_count();
+    if generator.offices > 1 && generator.rng.chance(50) {
+        generator.first_office = generator.rng.below(OFFICES);
+    }
     let mut pace_left = 0;
     while generator.calls < calls {
         if pace_left == 0 {
@@ -96,11 +106,13 @@ impl Generator {
             wanted,
             kind,
             pace: Pace::Smooth,
+            offices: 1,
+            first_office: 0,
             opened: BTreeSet::new(),
             box_had: 0,
-            office_had: 0,
+            office_had: [0; OFFICES],
             rest_for_box: Vec::new(),
-            rest_for_office: Vec::new(),
+            rest_for_office: array::from_fn(|_| Vec::new()),
         }
     }
 
@@ -152,10 +164,12 @@ impl Generator {
         }
     }
 
-    /// The session numbers at work: office's, box's, and the one after them.
+    /// The session numbers at work: that of the office in use, the box's, and the one after those of all.
     fn sessions(&self) -> (u32, u32, u32) {
         let office = self.simulation.office().progress().map_or(0, |now| now.session);
         let highest = self.simulation.cab().highest();
-        (office, highest, office.max(highest).saturating_add(1))
+        let all = self.simulation.offices().filter_map(Office::progress);
+        let last = all.map(|now| now.session).fold(highest, u32::max);
+        (office, highest, last.saturating_add(1))
     }
 }

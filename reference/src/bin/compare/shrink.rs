@@ -237,7 +237,7 @@ fn steps_of(lines: &[Vec<u8>]) -> Steps {
     for (id, line) in lines.iter().enumerate() {
         let delivery = way_of(line).and_then(|(way, indexes)| {
             let (log, writers) = if way.to_box() {
-                (simulation.from_office(), &from_office)
+                (simulation.from_offices(), &from_office)
             } else {
                 (simulation.from_cab(), &from_cab)
             };
@@ -256,7 +256,7 @@ fn steps_of(lines: &[Vec<u8>]) -> Steps {
         steps.push((id, step));
         simulation.line(line);
         note_writer(&mut from_cab, id, simulation.from_cab());
-        note_writer(&mut from_office, id, simulation.from_office());
+        note_writer(&mut from_office, id, simulation.from_offices());
     }
     steps
 }
@@ -359,7 +359,7 @@ fn rendered(steps: Steps) -> (Steps, Vec<Vec<u8>>) {
         };
         simulation.line(&line);
         from_cab.note(id, simulation.from_cab());
-        from_office.note(id, simulation.from_office());
+        from_office.note(id, simulation.from_offices());
         kept.push((id, step));
         lines.push(line);
     }

@@ -2,8 +2,10 @@
 
 use std::collections::{BTreeMap, BTreeSet};
 
+use reference::cab::Open;
 use reference::fault::{Fault, Wrong};
 use reference::link::{End, Frame};
+use reference::office::Office;
 use reference::refusal::Refusal;
 use reference::script::{Answer, Heard, ParseError, Simulation};
 use reference::stream::Came;
@@ -772,6 +774,7 @@ fn closing_sentences_hold() {
     let lines = allowed.iter().flat_map(|script| &script.lines);
     let firsts: BTreeSet<&str> = lines.map(|line| first_word(line)).collect();
     for first in [
+        "use",
         "pieces-box",
         "pieces-office",
         "stream-box",
@@ -861,4 +864,386 @@ fn shrinking_renumbers_pieces() {
         short.join(&b'/').escape_ascii().to_string(),
         "open 3/stream-box 01 07 00 10 04 00 03 00 00 00/pieces-office 1 5"
     );
+}
+
+/// A line's frame for the office in use, if it brings one.
+fn frame_for_office(simulation: &Simulation, line: &[u8], answer: &Answer) -> Option<Frame> {
+    let frame = match (first_word(line), answer) {
+        ("to-office", Answer::Ok) => {
+            let (words, _) = arguments(line);
+            let index = words.first()?.parse().ok()?;
+            simulation.from_cab().get(index)?.to_vec()
+        }
+        ("office" | "stream-office" | "pieces-office", Answer::Ok | Answer::Stream(_)) => {
+            let frames = frames_in(line, answer.clone());
+            frames.into_iter().next().map(|(_, frame, _)| frame)?
+        }
+        _ => return None,
+    };
+    Frame::from_bytes(&frame)
+}
+
+/// The frames that a line brought to the box, bare, and the answers.
+fn frames_for_box(simulation: &Simulation, line: &[u8], answer: &Answer) -> Vec<(Option<Frame>, Answer)> {
+    match (first_word(line), answer.bare()) {
+        ("to-box", answer) => {
+            let (words, _) = arguments(line);
+            let index = words.first().and_then(|word| word.parse().ok());
+            let frame = index.and_then(|index| simulation.from_offices().get(index));
+            vec![(frame.and_then(Frame::from_bytes), answer.clone())]
+        }
+        (_, Answer::Run(run)) => {
+            let judged = run
+                .iter()
+                .map(|judged| (Frame::from_bytes(&judged.frame), judged.answer.clone()));
+            judged.collect()
+        }
+        _ => Vec::new(),
+    }
+}
+
+fn name_of(frame: &Frame) -> &'static str {
+    match frame {
+        Frame::Open { .. } => "OPEN",
+        Frame::Welcome { .. } => "WELCOME",
+        Frame::Order { .. } => "ORDER",
+        Frame::Ack { .. } => "ACK",
+        Frame::Refuse { number: 5, .. } => "REFUSE 5",
+        Frame::Refuse { number: 6, .. } => "REFUSE 6",
+        Frame::Refuse { .. } => "other REFUSE",
+    }
+}
+
+fn stage_of(office: &Office) -> &'static str {
+    match office {
+        Office::NeverOpened => "never opened",
+        Office::Opening { .. } => "opening",
+        Office::Open(_) => "open",
+        Office::Over(_) => "over",
+    }
+}
+
+fn session_of(frame: &Frame) -> u32 {
+    match *frame {
+        Frame::Open { session }
+        | Frame::Welcome { session, .. }
+        | Frame::Order { session, .. }
+        | Frame::Ack { session, .. }
+        | Frame::Refuse { session, .. } => session,
+    }
+}
+
+/// What stood before a line.
+struct Before {
+    offices: Vec<Office>,
+    in_use: usize,
+    receiver_at_tag: bool,
+    open: Option<Open>,
+}
+
+impl Before {
+    fn of(simulation: &Simulation) -> Before {
+        Before {
+            offices: simulation.offices().cloned().collect(),
+            in_use: simulation.in_use(),
+            receiver_at_tag: simulation.office_receiver().at_tag(),
+            open: simulation.cab().open(),
+        }
+    }
+
+    fn office(&self) -> &Office {
+        &self.offices[self.in_use]
+    }
+
+    fn session(&self) -> Option<u32> {
+        self.office().progress().map(|now| now.session)
+    }
+
+    fn others(&self) -> impl Iterator<Item = &Office> {
+        let others = self.offices.iter().enumerate();
+        others
+            .filter(|(place, _)| *place != self.in_use)
+            .map(|(_, office)| office)
+    }
+
+    /// Whether it is the session of an office that is not in use.
+    fn is_anothers(&self, session: u32) -> bool {
+        let mut sessions = self.others().filter_map(Office::progress).map(|now| now.session);
+        self.session() != Some(session) && sessions.any(|other| other == session)
+    }
+}
+
+/// How often something was met that takes several offices.
+#[derive(Default)]
+struct Tally {
+    met: BTreeMap<String, usize>,
+    /// Sessions that were open at the box, with the number of orders taken.
+    taken: BTreeMap<u32, u16>,
+    /// The line before chose an office.
+    switched: bool,
+}
+
+impl Tally {
+    /// Over all scripts of a run of the usual length that demand 3's list allows, or all others.
+    fn of_scripts(allowed: bool) -> Tally {
+        let mut tally = Tally::default();
+        for (_, script) in scripts(CALLS, SEED).filter(|(_, script)| script.allowed == allowed) {
+            tally.script(&script);
+        }
+        tally
+    }
+
+    fn script(&mut self, script: &Script) {
+        let mut simulation = Simulation::new();
+        let mut opening = BTreeSet::new();
+        self.taken.clear();
+        for line in &script.lines {
+            let before = Before::of(&simulation);
+            let Some(answer) = simulation.line(line) else {
+                continue;
+            };
+            if let ("open", Answer::Frame(_)) = (first_word(line), &answer) {
+                opening.insert(simulation.in_use());
+            }
+            if let Some(frame) = frame_for_office(&simulation, line, &answer) {
+                self.frame_at_office(&before, &frame);
+            }
+            self.frames_at_box(&before, frames_for_box(&simulation, line, &answer));
+            self.line(&before, first_word(line), answer.bare(), &simulation);
+            self.windows(&before, first_word(line), &answer);
+            self.switched = first_word(line) == "use";
+            let open = simulation.cab().open();
+            self.taken.extend(open.map(|open| (open.session, open.taken)));
+        }
+        self.add(match opening.len() {
+            0 | 1 => "script of one office",
+            2..=4 => "script of 2 to 4 offices",
+            _ => "script of 5 to 8 offices",
+        });
+    }
+
+    fn add(&mut self, what: impl Into<String>) {
+        *self.met.entry(what.into()).or_default() += 1;
+    }
+
+    fn at_least(&self, least: usize, what: &str) {
+        let count = self.met.get(what).copied().unwrap_or(0);
+        assert!(count >= least, "{what}: {count}");
+    }
+
+    fn frame_at_office(&mut self, before: &Before, frame: &Frame) {
+        let session = session_of(frame);
+        let whose = if before.session() == Some(session) {
+            "its own"
+        } else if before.is_anothers(session) {
+            "another's"
+        } else {
+            "no"
+        };
+        let stage = stage_of(before.office());
+        self.add(format!("{} of {whose} session, {stage}", name_of(frame)));
+    }
+
+    fn frames_at_box(&mut self, before: &Before, judged: Vec<(Option<Frame>, Answer)>) {
+        let mut overtook = false;
+        for (frame, answer) in judged {
+            let accepted = matches!(answer, Answer::Frame(_));
+            let refused_6 = matches!(answer, Answer::RefusedFrame(Refusal::WrongSession, _));
+            match frame {
+                Some(Frame::Open { session }) if accepted => {
+                    let open = before.open.filter(|open| open.taken > 0);
+                    overtook |= open.is_some_and(|open| open.session < session);
+                    if overtook {
+                        self.add("a session overtaken that has orders taken");
+                    }
+                }
+                Some(Frame::Open { session }) if refused_6 => {
+                    self.add(if self.taken.contains_key(&session) {
+                        "late OPEN of an overtaken session"
+                    } else {
+                        "OPEN that comes too late"
+                    });
+                }
+                Some(Frame::Order { session, number, .. }) if refused_6 => {
+                    let Some(taken) = self.taken.get(&session).copied() else {
+                        continue;
+                    };
+                    let next = before.open.map(|open| open.taken + 1);
+                    self.add("late order");
+                    for (met, what) in [
+                        (number == taken + 1, "late order, the next of its own session"),
+                        (number <= taken, "late order, taken before"),
+                        (
+                            Some(number) == next,
+                            "late order, the next number of the open session",
+                        ),
+                        (overtook, "late order in a run behind the OPEN that overtook it"),
+                    ] {
+                        if met {
+                            self.add(what);
+                        }
+                    }
+                }
+                _ => {}
+            }
+        }
+    }
+
+    fn line(&mut self, before: &Before, first: &str, answer: &Answer, after: &Simulation) {
+        match (first, answer) {
+            ("use", Answer::Ok) => {
+                self.add(format!("office {}", after.in_use() + 1));
+                if !before.receiver_at_tag && after.in_use() != before.in_use {
+                    self.add("half a frame left at an office");
+                    if !after.office_receiver().at_tag() {
+                        self.add("half a frame at two offices");
+                    }
+                }
+            }
+            ("restart", _) if before.others().any(|office| office.settings().is_some()) => {
+                self.add("restart with another office open");
+            }
+            ("issue-all", Answer::Frames(frames)) if !frames.is_empty() => {
+                if before.others().any(|office| office.settings().is_some()) {
+                    self.add("batch with another office open");
+                }
+            }
+            ("open", Answer::Frame(_)) => {
+                let over = matches!(before.office(), Office::Over(_));
+                let open = before.open.filter(|open| before.is_anothers(open.session));
+                if over && open.is_some() {
+                    self.add("an overtaken office comes back");
+                }
+            }
+            ("show" | "describe", _) => {
+                let open = before.open.filter(|open| before.is_anothers(open.session));
+                if before.session() < open.map(|open| open.session) && before.session().is_some() {
+                    self.add(format!("overtaken, {}", before.office().word()));
+                }
+            }
+            _ => {}
+        }
+        let own = before.session();
+        let runs =
+            |office: &Office| office.settings().is_some() && office.progress().map(|now| now.session) == own;
+        if runs(before.office()) && before.others().any(runs) {
+            self.add("two offices open with one session");
+        }
+    }
+
+    fn windows(&mut self, before: &Before, first: &str, answer: &Answer) {
+        let full = |office: &&Office| {
+            let now = office.progress();
+            office.settings().is_some() && now.is_some_and(|now| now.issued - now.confirmed == 8)
+        };
+        let two = before.offices.iter().filter(full).count() > 1;
+        match (first, answer) {
+            ("resend", Answer::Frame(_)) if two => self.add("resend with two windows full"),
+            ("raise" | "lower" | "command", Answer::Refused(Refusal::WindowFull)) if two => {
+                self.add("refusal 8 with two windows full");
+            }
+            _ => {}
+        }
+        if self.switched && matches!((first, answer), ("resend", Answer::Frame(_))) {
+            self.add("resend after switching");
+        }
+    }
+}
+
+#[test]
+fn several_offices_are_met() {
+    for (allowed, tally) in [true, false].map(|allowed| (allowed, Tally::of_scripts(allowed))) {
+        println!("allowed {allowed}: {:#?}", tally.met);
+        for (least, whats) in [
+            (4, &["script of one office", "script of 2 to 4 offices"][..]),
+            (
+                200,
+                &[
+                    "a session overtaken that has orders taken",
+                    "late OPEN of an overtaken session",
+                    "late order, the next of its own session",
+                    "late order, taken before",
+                    "late order, the next number of the open session",
+                    "half a frame left at an office",
+                    "batch with another office open",
+                    "overtaken, waiting",
+                    "overtaken, over",
+                ],
+            ),
+            (
+                50,
+                &[
+                    "OPEN that comes too late",
+                    "an overtaken office comes back",
+                    "restart with another office open",
+                    "resend with two windows full",
+                    "refusal 8 with two windows full",
+                    "resend after switching",
+                ],
+            ),
+            (
+                10,
+                &[
+                    "late order in a run behind the OPEN that overtook it",
+                    "half a frame at two offices",
+                    "overtaken, settled",
+                ],
+            ),
+            (2, &["script of 5 to 8 offices"]),
+        ] {
+            for what in whats {
+                tally.at_least(least, what);
+            }
+        }
+        for frame in ["WELCOME", "ACK", "REFUSE 5", "REFUSE 6"] {
+            for stage in ["opening", "open"] {
+                tally.at_least(10, &format!("{frame} of another's session, {stage}"));
+            }
+        }
+        for what in [
+            "REFUSE 5 of its own session, open",
+            "REFUSE 6 of its own session, open",
+        ] {
+            tally.at_least(100, what);
+        }
+        tally.at_least(50, "REFUSE 6 of its own session, opening");
+        for number in 1..=8 {
+            tally.at_least(5, &format!("office {number}"));
+        }
+        if !allowed {
+            tally.at_least(100, "two offices open with one session");
+        }
+    }
+}
+
+#[test]
+fn wrong_choices_of_an_office_are_met() {
+    let mut met: BTreeMap<String, usize> = BTreeMap::new();
+    for (_, script) in scripts(CALLS, SEED) {
+        let mut simulation = Simulation::new();
+        for line in script.lines {
+            let answer = simulation.line(&line);
+            if let ("use", Some(Answer::Invalid(_, error))) = (first_word(&line), answer) {
+                let line = line.escape_ascii();
+                *met.entry(format!("{line}: {error}")).or_default() += 1;
+            }
+        }
+    }
+    for line in [
+        "use: not a number",
+        "use x: not a number",
+        "use two: not a number",
+        "use -1: not a number",
+        "use 0: number out of range",
+        "use 9: number out of range",
+        "use 257: number out of range",
+        "use 4294967298: number out of range",
+        "use 18446744073709551617: number out of range",
+        "use 9 x: number out of range",
+        "use 2 1: too many words",
+        "use 2 x: too many words",
+    ] {
+        let count = met.get(line).copied().unwrap_or(0);
+        assert!(count >= 5, "{line} {count}");
+    }
 }

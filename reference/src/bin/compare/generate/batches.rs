@@ -106,9 +106,9 @@ impl Generator {
     /// was lost.
     pub(super) fn page(&mut self) {
         let count = (WINDOW - self.unanswered()).max(1);
-        let before = self.simulation.from_office().written();
+        let before = self.simulation.from_offices().written();
         self.batch_of(count);
-        let after = self.simulation.from_office().written();
+        let after = self.simulation.from_offices().written();
         if after == before {
             return;
         }

@@ -33,18 +33,20 @@ impl Generator {
         let taken = open.map_or(0, |open| open.taken);
         let (confirmed, issued) = now.map_or((0, 0), |now| (now.confirmed, now.issued));
         let session = open.map_or(highest, |open| open.session);
+        let mut sessions = vec![
+            office,
+            office,
+            office,
+            session,
+            session,
+            session,
+            highest,
+            next,
+            office.wrapping_sub(1),
+        ];
+        sessions.extend(self.other_sessions());
         Aim {
-            sessions: vec![
-                office,
-                office,
-                office,
-                session,
-                session,
-                session,
-                highest,
-                next,
-                office.wrapping_sub(1),
-            ],
+            sessions,
             numbers: vec![
                 taken,
                 taken.saturating_add(1),
@@ -78,7 +80,7 @@ impl Generator {
                 let log = if from_box {
                     self.simulation.from_cab()
                 } else {
-                    self.simulation.from_office()
+                    self.simulation.from_offices()
                 };
                 let back = self.rng.below(8) as u64;
                 let frame = log

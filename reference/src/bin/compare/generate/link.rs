@@ -16,11 +16,16 @@ impl Generator {
             self.emit(format!("room {room}"));
             return;
         }
+        if self.offices > 1 && self.rng.chance(14) {
+            self.several_offices();
+            return;
+        }
         if matches!(self.pace, Pace::Smooth) && self.rng.chance(20) {
             self.help();
             return;
         }
         let (open, reopen) = match self.simulation.office() {
+            Office::NeverOpened | Office::Over(_) if self.at_work().is_some() => (40, 10),
             Office::NeverOpened | Office::Over(_) => (250, 10),
             Office::Opening { .. } => (15, 120),
             Office::Open(_) => (8, 8),
@@ -41,11 +46,11 @@ impl Generator {
         {
             0 if self.rng.chance(18) => self.run(),
             0 => {
-                let index = next_frame(&mut self.rng, self.simulation.from_office(), &mut self.box_had);
+                let index = next_frame(&mut self.rng, self.simulation.from_offices(), &mut self.box_had);
                 self.carry(End::Box, index);
             }
             1 => {
-                let index = next_frame(&mut self.rng, self.simulation.from_cab(), &mut self.office_had);
+                let index = self.next_for_office();
                 self.carry(End::Office, index);
             }
             2 if self.rng.chance(batches) => self.batch(),
@@ -73,6 +78,9 @@ impl Generator {
     /// Brings the session a step on, as an office that keeps trying would.
     fn help(&mut self) {
         match (self.simulation.office(), self.simulation.office().progress()) {
+            (Office::NeverOpened | Office::Over(_), _) if self.at_work().is_some() && self.rng.chance(70) => {
+                return self.switch();
+            }
             (Office::Opening { .. }, _) => {
                 self.emit("reopen");
             }
@@ -82,11 +90,11 @@ impl Generator {
             _ => return self.open_or_issue(),
         }
         for _ in 0..self.rng.between(1, 9) {
-            let before = self.simulation.from_office().written();
+            let before = self.simulation.from_offices().written();
             self.carry_whole(End::Box, before);
             self.carry_whole(End::Office, self.simulation.from_cab().written());
-            match self.simulation.office().progress() {
-                Some(now) if now.confirmed < now.issued => {
+            match (self.simulation.office(), self.simulation.office().progress()) {
+                (Office::Open(_), Some(now)) if now.confirmed < now.issued => {
                     self.emit(format!("resend {}", now.confirmed + 1));
                 }
                 _ => break,
@@ -111,10 +119,15 @@ impl Generator {
             1 => self.rng.below(next as usize) as u32,
             2 => 0,
             3 if near_end => u32::MAX - self.rng.below(3) as u32,
+            4 if !allowed && self.offices > 1 && self.rng.chance(60) => self.other_session(),
             4 if !allowed => self.rng.pick(&[office, highest, office.saturating_sub(1), 1]),
             _ => next,
         };
-        if allowed && self.opened.contains(&session) {
+        self.open_session(session);
+    }
+
+    pub(super) fn open_session(&mut self, session: u32) {
+        if self.kind == Kind::Allowed && self.opened.contains(&session) {
             return;
         }
         if let Some(Answer::Frame(_)) = self.emit(format!("open {session}")) {
@@ -176,7 +189,7 @@ impl Generator {
         format!("{word} {step}").into_bytes()
     }
 
-    fn resend(&mut self) {
+    pub(super) fn resend(&mut self) {
         let now = self.simulation.office().progress();
         let (confirmed, issued) = now.map_or((0, 0), |now| (now.confirmed, now.issued));
         let number = match self.rng.below(12) {

@@ -46,7 +46,7 @@ pub fn longest_session(rng: Rng) -> Script {
         generator.emit(format!("resend {number}"));
     }
     generator.deliver_all();
-    let last = generator.simulation.from_office().written();
+    let last = generator.simulation.from_offices().written();
     for line in ["show", "describe", "raise 1", "resend 65535", "reopen"] {
         generator.emit(line);
     }
@@ -57,16 +57,25 @@ pub fn longest_session(rng: Rng) -> Script {
     generator.finish(true)
 }
 
-/// The same by pages of 8; the last orders are answered before the numbers run out.
+/// The same by pages of 8; the last orders are answered before the numbers run out. Beside it another
+/// office sends the OPEN of a lower session again and again, whose frames are kept among the others.
 pub fn longest_by_pages(rng: Rng) -> Script {
     let mut generator = Generator::new(rng, Kind::Allowed, usize::MAX);
     for line in ["open 9", "to-box 1", "to-office 1", "room 512"] {
+        generator.emit(line);
+    }
+    for line in ["use 2", "open 8", "use 1"] {
         generator.emit(line);
     }
     for page in 1..=8190 {
         let items: Vec<String> = (0..8).map(|_| generator.short_order()).collect();
         generator.emit(format!("issue-all {}", items.join(" / ")));
         generator.deliver_page();
+        if page % 64 == 7 {
+            for line in ["use 2", "reopen", "use 1"] {
+                generator.emit(line);
+            }
+        }
         if page % 512 == 13 {
             generator.emit("show");
             generator.look_at_kept();
@@ -123,7 +132,7 @@ impl Generator {
 
     /// All unanswered orders in one run.
     fn deliver_page(&mut self) {
-        let last = self.simulation.from_office().written();
+        let last = self.simulation.from_offices().written();
         let first = last + 1 - self.unanswered() as u64;
         let indexes: Vec<String> = (first..=last).map(|index| index.to_string()).collect();
         self.emit(format!("to-box-all {}", indexes.join(" ")));
@@ -134,7 +143,7 @@ impl Generator {
     fn deliver_all(&mut self) {
         let now = self.simulation.office().progress();
         let unanswered = now.map_or(0, |now| u64::from(now.issued - now.confirmed));
-        let last = self.simulation.from_office().written();
+        let last = self.simulation.from_offices().written();
         for index in last - unanswered + 1..=last {
             self.emit(format!("to-box {index}"));
         }
@@ -144,7 +153,7 @@ impl Generator {
 
     /// Frames just kept and just no longer kept, at both ends.
     fn look_at_kept(&mut self) {
-        let office = self.simulation.from_office().written();
+        let office = self.simulation.from_offices().written();
         let cab = self.simulation.from_cab().written();
         for back in [4094, 4095, 4096, 4097] {
             self.emit(format!("to-office {}", cab.saturating_sub(back)));

@@ -77,14 +77,14 @@ impl Generator {
     fn rest_for(&mut self, end: End) -> &mut Vec<u8> {
         match end {
             End::Box => &mut self.rest_for_box,
-            End::Office => &mut self.rest_for_office,
+            End::Office => &mut self.rest_for_office[self.simulation.in_use()],
         }
     }
 
     /// The frames that were written for this end.
     pub(super) fn log_for(&self, end: End) -> &Log {
         match end {
-            End::Box => self.simulation.from_office(),
+            End::Box => self.simulation.from_offices(),
             End::Office => self.simulation.from_cab(),
         }
     }

@@ -32,13 +32,13 @@ impl Generator {
     /// or in another order.
     fn run_indexes(&mut self) -> Vec<u64> {
         let count = self.run_count() as u64;
-        let written = self.simulation.from_office().written();
+        let written = self.simulation.from_offices().written();
         let from = self.box_had.min(written);
         let mut indexes: Vec<u64> = match self.rng.weighted(&[55, 15, 30]) {
             0 if from < written => (from + 1..=written.min(from + count)).collect(),
             0 | 1 => (written.saturating_sub(count) + 1..=written).collect(),
             _ => {
-                let log = self.simulation.from_office();
+                let log = self.simulation.from_offices();
                 let next = |_| next_frame(&mut self.rng, log, &mut self.box_had);
                 (0..count).map(next).collect()
             }
@@ -63,7 +63,7 @@ impl Generator {
 
     /// By their numbers, or written out.
     pub(super) fn written_run(&mut self, indexes: &[u64]) {
-        let log = self.simulation.from_office();
+        let log = self.simulation.from_offices();
         let frames = indexes.iter().map(|index| log.get(*index).map(<[u8]>::to_vec));
         let frames: Option<Vec<Vec<u8>>> = frames.collect();
         match frames {
@@ -190,7 +190,7 @@ impl Generator {
     }
 
     fn next_for_box(&mut self) -> Vec<u8> {
-        let log = self.simulation.from_office();
+        let log = self.simulation.from_offices();
         let index = next_frame(&mut self.rng, log, &mut self.box_had);
         log.get(index).unwrap_or(&[]).to_vec()
     }
