@@ -1,13 +1,14 @@
 -- When settings change: one exchange sets a named status bit, or completes a packet that is performed; and a performed
 -- packet writes its register exactly where it passes every check.
-use Prim.Native.Nat.{ℕ, _/_}
+use Prim.Native.Nat.{ℕ, _/_, _<_}
 use native.Mathlib.Omega.{arith}
 use mathlib.Core.Path.{_≡_, refl, sym, _∙_}
-use mathlib.Core.Bool.{true, false}
-use mathlib.Core.List.{List}
+use mathlib.Core.Bool.{true, false, and-false}
+use mathlib.Core.List.{List, [], _∷_}
+use mathlib.Core.Logic.{_⊎_, inl, inr}
 use lib.ListN.{length}
 use lib.Dec.{eqb, ltb}
-use borrow.Author.Tests.{eqb-true, eqb-false, eq-eqb, ltb-true, ltb-false}
+use borrow.Author.Tests.{eqb-true, eqb-false, eq-eqb, ne-eqb, le-leb, lt-leb, ltb-true, ltb-false}
 use Rattle.base.proofs.Tests.{cond-cases}
 use Rattle.packet.specs.declared.writer.Access.{Access}
 use Rattle.packet.specs.declared.writer.Access.the-variants.{Write, Read}
@@ -15,6 +16,7 @@ use Rattle.bus.specs.declared.Phase.{Phase}
 use Rattle.bus.specs.declared.Phase.the-variants.{Idle, Command, Length, Data, Checksum}
 use Rattle.bus.specs.declared.Controller.{Controller}
 use Rattle.bus.specs.declared.command.Register.{Register}
+use Rattle.bus.specs.declared.command.Register.the-variants.{Bezel}
 use Rattle.bus.specs.declared.command.Performed.{Performed}
 use Rattle.bus.specs.declared.command.Lookup.{Lookup}
 use Rattle.bus.specs.declared.command.Lookup.the-variants.{Found, Unknown}
@@ -39,6 +41,7 @@ use Rattle.bus.specs.CommandTheorems.{
   PerformOutcome,
   PerformWrites,
   PerformReads,
+  SignsJudged,
 }
 use Rattle.bus.specs.BusTheorems.{
   value,
@@ -98,6 +101,20 @@ perform-writes σ k d r passed fits = executed σ k d r Write passed ∙ rw fits
 
 pub perform-reads : PerformReads
 perform-reads σ k d r passed = executed σ k d r Read passed
+
+pub signs-judged : SignsJudged
+unfolding lookup access write-register
+signs-judged σ h-low h-high h-sign v-low v-high v-sign on =
+    let available : Available σ 0x50 Bezel Write = record { known = record { found = refl; asked = refl }; offered = refl; unlocked = ne-eqb _ _ on } in
+    let passed : Requested σ 0x50 d Bezel Write = record { available = available; whole = refl } in
+    (λ h v. perform-writes σ 0x50 d Bezel passed (simp (le-leb h-sign 1 h, le-leb v-sign 1 v)), λ above. executed σ 0x50 d Bezel Write passed ∙ rw (one-above above))
+  where
+    d : List ℕ
+    d = h-low ∷ h-high ∷ h-sign ∷ v-low ∷ v-high ∷ v-sign ∷ []
+
+    one-above : (1 < h-sign) ⊎ (1 < v-sign) → accepts Bezel d ≡ false
+    one-above (inl h) = simp (lt-leb h-sign 1 h)
+    one-above (inr v) = simp (lt-leb v-sign 1 v, and-false)
 
 -- what flags, accepted writes and clearing keep, every command keeps
 pub command-keeps : (P : Settings → Type 0) (σ : Settings) (k : ℕ) (d : List ℕ) → P σ → P (cleared σ) → ((flag : Flag) → P (flagged σ flag)) →

@@ -110,6 +110,10 @@ up-to most d = leb (getD d 0 0) most
 abbrev pub duty-up-to : ℕ → List ℕ → Bool
 duty-up-to most d = leb (getD d 2 0) most
 
+-- the sign bytes of both offsets: document 02, Ask 4
+abbrev pub signs-up-to : ℕ → List ℕ → Bool
+signs-up-to most d = leb (getD d 2 0) most && leb (getD d 5 0) most
+
 abbrev pub stores-backlight : Settings → List ℕ → Settings
 stores-backlight σ d = settings-of (number-at 0 d) (σ .switches) (σ .heater) (σ .bezel) (σ .pixels) (σ .status)
 
@@ -188,7 +192,7 @@ table =
     ∷ row 0x25 true 1 (up-to 1) stores-splash splash-byte
     ∷ row 0x26 true 1 (up-to 2) stores-strength strength-byte
     ∷ row 0x27 true 3 (duty-up-to 100) stores-heater heater-bytes
-    ∷ row 0x28 true 6 any stores-bezel bezel-bytes
+    ∷ row 0x28 true 6 (signs-up-to 1) stores-bezel bezel-bytes
     ∷ row 0x33 false 4 any stores-nothing status-bytes
     ∷ row 0x53 true 8 any stores-pixels pixels-bytes
     ∷ []

@@ -1,9 +1,10 @@
 -- What is proved of a command that is performed.
-use Prim.Native.Nat.{ℕ, _/_, _%_}
+use Prim.Native.Nat.{ℕ, _/_, _%_, _≤_, _<_}
 use mathlib.Core.Path.{_≡_}
 use mathlib.Core.Bool.{true, false}
 use mathlib.Core.List.{List, [], _∷_}
 use mathlib.Core.Option.{Option, none, some}
+use mathlib.Core.Logic.{_⊎_}
 use lib.ListN.{length}
 use lib.Dec.{eqb}
 use Rattle.base.specs.Bytes.{Bytes}
@@ -13,6 +14,7 @@ use Rattle.settings.specs.declared.settings.Settings.{Settings}
 use Rattle.settings.specs.declared.settings.Flag.the-variants.{NotAvailable, InvalidCommand, OutOfRange, WrongLength}
 use Rattle.settings.specs.Range.{StatusHeld, Held}
 use Rattle.bus.specs.declared.command.Register.{Register}
+use Rattle.bus.specs.declared.command.Register.the-variants.{Bezel}
 use Rattle.bus.specs.declared.command.Lookup.{Lookup}
 use Rattle.bus.specs.declared.command.Lookup.the-variants.{Found, Unknown}
 use Rattle.bus.specs.declared.command.Performed.{Performed}
@@ -97,6 +99,15 @@ PerformWrites = (σ : Settings) (k : ℕ) (d : List ℕ) (r : Register) → Requ
 
 abbrev pub PerformReads : Type 0
 PerformReads = (σ : Settings) (k : ℕ) (d : List ℕ) (r : Register) → Requested σ k d r Read → perform σ k d ≡ read-register σ (k / 2) r
+
+-- document 02, Ask 4: while master is on, a write of the bezel offsets, horizontal then vertical, takes effect where both signs are 0 or 1; where either is
+-- above, the response is 07, "out of range" is set, and all else is as it was
+abbrev pub SignsJudged : Type 0
+SignsJudged =
+    (σ : Settings) (h-low h-high h-sign v-low v-high v-sign : ℕ) → (σ .switches .master ≡ 0 → ⊥) →
+    let d = h-low ∷ h-high ∷ h-sign ∷ v-low ∷ v-high ∷ v-sign ∷ [] in
+    (h-sign ≤ 1 → v-sign ≤ 1 → perform σ 0x50 d ≡ write-performed σ Bezel d)
+    × ((1 < h-sign) ⊎ (1 < v-sign) → perform σ 0x50 d ≡ failed σ OutOfRange 0x07)
 
 -- settings that a controller could hold stay such, whatever command is performed
 abbrev pub PerformHeld : Type 0

@@ -48,7 +48,7 @@ use Rattle.settings.specs.Settings.{
   flagged,
   cleared,
 }
-use Rattle.settings.specs.Range.{switch-limit, strength-limit, duty-limit}
+use Rattle.settings.specs.Range.{switch-limit, strength-limit, duty-limit, sign-limit}
 
 -- ---- what a command byte asks for
 
@@ -94,6 +94,10 @@ request-length r Read = 0
 abbrev pub at-most : List ℕ → ℕ → ℕ → Bool
 at-most d i most = leb (getD d i 0) most
 
+-- the sign bytes of both bezel offsets, horizontal then vertical
+abbrev pub signs-accepted : List ℕ → Bool
+signs-accepted d = at-most d 2 sign-limit && at-most d 5 sign-limit
+
 abbrev pub accepts : Register → List ℕ → Bool
 accepts Backlight d = true
 accepts Master d = at-most d 0 switch-limit
@@ -101,7 +105,7 @@ accepts Park d = at-most d 0 switch-limit
 accepts Splash d = at-most d 0 switch-limit
 accepts Strength d = at-most d 0 strength-limit
 accepts Heater d = at-most d 2 duty-limit
-accepts Bezel d = true
+accepts Bezel d = signs-accepted d
 accepts Status d = true
 accepts Pixels d = true
 

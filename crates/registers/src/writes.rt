@@ -10,6 +10,7 @@ use number::byte;
 use number::le16;
 use settings::DUTY_LIMIT;
 use settings::Flag;
+use settings::SIGN_LIMIT;
 use settings::STRENGTH_LIMIT;
 use settings::SWITCH_LIMIT;
 use settings::Settings;
@@ -22,6 +23,16 @@ fn at_most(bytes: &[u8], i: usize, most: u8) -> bool
     byte(bytes, i) <= most
 }
 
+// The sign bytes of both bezel offsets, horizontal then vertical.
+fn signs_accepted(bytes: &[u8]) -> bool
+    ensures { λ r. ⌜ r ≡ spec.signs-accepted (now (bytes .entry)) ⌝ }
+{
+    if at_most(bytes, 2, SIGN_LIMIT) {
+        return at_most(bytes, 5, SIGN_LIMIT);
+    }
+    false
+}
+
 fn accepts(register: Register, bytes: &[u8]) -> bool
     ensures { λ r. ⌜ r ≡ spec.accepts register (now (bytes .entry)) ⌝ }
 {
@@ -32,7 +43,7 @@ fn accepts(register: Register, bytes: &[u8]) -> bool
         Register::Splash => at_most(bytes, 0, SWITCH_LIMIT),
         Register::Strength => at_most(bytes, 0, STRENGTH_LIMIT),
         Register::Heater => at_most(bytes, 2, DUTY_LIMIT),
-        Register::Bezel => true,
+        Register::Bezel => signs_accepted(bytes),
         Register::Status => true,
         Register::Pixels => true,
     }

@@ -23,6 +23,10 @@ strength-limit = 2
 abbrev pub duty-limit : ℕ
 duty-limit = 100
 
+-- of a bezel offset's sign byte
+abbrev pub sign-limit : ℕ
+sign-limit = 1
+
 -- ---- settings that a controller could hold
 
 abbrev pub switches-in-range : Switches → Bool

@@ -3,6 +3,7 @@ mod range;
 mod settings;
 
 pub use range::DUTY_LIMIT;
+pub use range::SIGN_LIMIT;
 pub use range::STRENGTH_LIMIT;
 pub use range::SWITCH_LIMIT;
 pub use settings::Area;

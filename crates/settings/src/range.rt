@@ -11,6 +11,9 @@ pub const STRENGTH_LIMIT: u8 = 2;
 
 pub const DUTY_LIMIT: u8 = 100;
 
+// Of a bezel offset's sign byte.
+pub const SIGN_LIMIT: u8 = 1;
+
 fn switches_in_range(switches: Switches) -> bool
     ensures { λ r. ⌜ r ≡ spec.switches-in-range switches ⌝ }
 {

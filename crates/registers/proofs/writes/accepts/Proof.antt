@@ -39,6 +39,9 @@ at-most-requires-5 c κs = search needs
 enum-told-7 : tie.Need-enum-told-7
 enum-told-7 c = search needs
 
+signs-accepted-requires : tie.Need-signs-accepted-requires
+signs-accepted-requires c κs = search needs
+
 enum-told-8 : tie.Need-enum-told-8
 enum-told-8 c = search needs
 
@@ -64,7 +67,7 @@ returns-6 : tie.Need-returns-6
 returns-6 c = search (needs, tests, c .at-most5 .ensures, c .before .enum-told6 .given .1)
 
 returns-7 : tie.Need-returns-7
-returns-7 c = search needs
+returns-7 c = search (needs, tests, c .signs-accepted .ensures, c .before .enum-told7 .given .1)
 
 returns-8 : tie.Need-returns-8
 returns-8 c = search needs
@@ -88,6 +91,7 @@ accepts-spec =
     enum-told-6
     at-most-requires-5
     enum-told-7
+    signs-accepted-requires
     enum-told-8
     enum-told-9
     returns
