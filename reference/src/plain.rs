@@ -282,7 +282,7 @@ impl Settings {
                 self.heater_khz = word(a, b);
                 self.heater_duty = c;
             }
-            0x28 => self.bezel = [offset(a, b, c), offset(d, e, f)],
+            0x28 if c <= 1 && f <= 1 => self.bezel = [offset(a, b, c), offset(d, e, f)],
             0x53 => self.pixels = [word(a, b), word(c, d), word(e, f), word(g, h)],
             _ => return false,
         }

@@ -131,7 +131,7 @@ impl Settings {
                 let khz = word(low, high);
                 self.heater = Heater { khz, duty };
             }
-            (Register::Bezel, &[xl, xh, xs, yl, yh, ys]) => {
+            (Register::Bezel, &[xl, xh, xs @ 0..=1, yl, yh, ys @ 0..=1]) => {
                 self.bezel = [offset(word(xl, xh), xs), offset(word(yl, yh), ys)];
             }
             (Register::Pixels, &[a, b, c, d, e, f, g, h]) => {
@@ -189,7 +189,7 @@ impl Settings {
             && settings.write(Register::Bezel, &block[9..15])
             && settings.write(Register::Pixels, &block[15..23]);
         settings.status.copy_from_slice(&block[23..27]);
-        // Bezel signs other than those read back come out changed here.
+        // A bezel offset of minus 0 comes out changed here.
         (accepted && settings.to_block() == block).then_some(settings)
     }
 }

@@ -29,10 +29,8 @@ fn write_data(rng: &mut Rng, id: u8, size: usize) -> Vec<u8> {
         0x27 => data[2] = if rng.chance(30) { 100 } else { rng.below(101) as u8 },
         0x28 => {
             for place in [2, 5] {
-                if rng.chance(70) {
-                    data[place] = rng.below(2) as u8;
-                }
-                if rng.chance(20) {
+                data[place] = rng.below(2) as u8;
+                if rng.chance(30) {
                     data[place - 2] = 0;
                     data[place - 1] = 0;
                 }
@@ -43,23 +41,42 @@ fn write_data(rng: &mut Rng, id: u8, size: usize) -> Vec<u8> {
     data
 }
 
+/// Data of a bezel write with a sign above 1 in the first place, in the second or in both; of some of
+/// them the last byte is missing, or one more follows.
+pub fn bad_signs(rng: &mut Rng) -> Vec<u8> {
+    let mut data = write_data(rng, 0x28, 6);
+    for place in rng.pick(&[&[2][..], &[5], &[2, 5]]) {
+        data[*place] = match rng.below(2) {
+            0 => rng.pick(&[2, 3, 0x5A, 0xA5, 0xFF]),
+            _ => rng.between(2, 255) as u8,
+        };
+    }
+    match rng.weighted(&[80, 10, 10]) {
+        0 => {}
+        1 => data.truncate(5),
+        _ => data.push(rng.byte()),
+    }
+    data
+}
+
 fn refused_value(rng: &mut Rng) -> (u8, Vec<u8>) {
-    match rng.below(5) {
+    match rng.below(10) {
         0 => (0x02, vec![rng.pick(&[2, 3, 0x5A, 0xA5, 0xFF])]),
         1 => (0x04, vec![rng.pick(&[2, 3, 0x5A, 0xA5, 0xFF])]),
         2 => (0x4A, vec![rng.pick(&[2, 3, 0x5A, 0xA5, 0xFF])]),
         3 => (0x4C, vec![rng.pick(&[3, 4, 0x5A, 0xA5, 0xFF])]),
-        _ => {
+        4 => {
             let duty = rng.pick(&[101, 102, 0xA5, 0xFF]);
             (0x4E, vec![rng.byte(), rng.byte(), duty])
         }
+        _ => (0x50, bad_signs(rng)),
     }
 }
 
 /// A command byte and its data, at most `most` bytes of it.
 pub fn command(rng: &mut Rng, most: usize) -> (u8, Vec<u8>) {
     let (id, size) = register(rng);
-    match rng.weighted(&[45, 15, 8, 8, 4, 5, 3, 6, 6]) {
+    match rng.weighted(&[45, 15, 16, 8, 4, 5, 3, 6, 6]) {
         0 if id != 0x33 => (2 * id, write_data(rng, id, size)),
         0 | 1 => (2 * id + 1, Vec::new()),
         2 => refused_value(rng),

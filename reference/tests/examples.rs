@@ -1,5 +1,5 @@
 //! The fixed examples of document 01 and the built ones of DLPU057A section 4,
-//! with the bytes printed there; and document 02's stream.
+//! with the bytes printed there; and document 02's bezel sign and stream.
 
 mod common;
 
@@ -170,6 +170,201 @@ fn duty_100_and_101() {
         fresh_answers("A5 4E 03 01 02 65 B9", "07").heater,
         Heater { khz: 0, duty: 0 }
     );
+}
+
+const STATUS: &str = "A5 67 00 67";
+const NO_STATUS: &str = "01 04 00 00 00 00 05";
+const BEZEL: &str = "A5 51 00 51";
+
+#[test]
+fn signs_0_and_1() {
+    for (write, held, read) in [
+        (
+            "A5 50 06 05 00 00 07 00 00 62",
+            [-5, -7],
+            "01 06 05 00 00 07 00 00 13",
+        ),
+        (
+            "A5 50 06 05 00 00 07 00 01 63",
+            [-5, 7],
+            "01 06 05 00 00 07 00 01 14",
+        ),
+        (
+            "A5 50 06 05 00 01 07 00 00 63",
+            [5, -7],
+            "01 06 05 00 01 07 00 00 14",
+        ),
+        (
+            "A5 50 06 05 00 01 07 00 01 64",
+            [5, 7],
+            "01 06 05 00 01 07 00 01 15",
+        ),
+        // Amount 0 with sign 0 reads back with sign 1.
+        (
+            "A5 50 06 00 00 00 00 00 00 56",
+            [0, 0],
+            "01 06 00 00 01 00 00 01 09",
+        ),
+        (
+            "A5 50 06 00 00 00 07 00 01 5E",
+            [0, 7],
+            "01 06 00 00 01 07 00 01 10",
+        ),
+        (
+            "A5 50 06 05 00 00 00 00 00 5B",
+            [-5, 0],
+            "01 06 05 00 00 00 00 01 0D",
+        ),
+        (
+            "A5 50 06 00 00 01 00 00 00 57",
+            [0, 0],
+            "01 06 00 00 01 00 00 01 09",
+        ),
+    ] {
+        let mut controller = Controller::fresh();
+        answers(&mut controller, write, "01");
+        assert_eq!(controller.settings().bezel, held, "{write}");
+        answers(&mut controller, BEZEL, read);
+        answers(&mut controller, STATUS, NO_STATUS);
+    }
+}
+
+/// A controller that holds the offsets -5 and 7, and its settings.
+fn with_offsets() -> (Controller, Settings) {
+    let mut controller = Controller::fresh();
+    answers(&mut controller, "A5 50 06 05 00 00 07 00 01 63", "01");
+    let settings = *controller.settings();
+    assert_eq!(settings.bezel, [-5, 7]);
+    (controller, settings)
+}
+
+#[test]
+fn a_sign_above_1() {
+    for write in [
+        "A5 50 06 09 00 02 03 00 01 65",
+        "A5 50 06 09 00 02 03 00 00 64",
+        "A5 50 06 09 00 01 03 00 02 65",
+        "A5 50 06 09 00 00 03 00 02 64",
+        "A5 50 06 09 00 02 03 00 02 66",
+        "A5 50 06 09 00 FF 03 00 01 62",
+        "A5 50 06 09 00 00 03 00 FF 61",
+        "A5 50 06 09 00 FF 03 00 FF 60",
+        // Whatever the amount.
+        "A5 50 06 00 00 02 03 00 01 5C",
+        "A5 50 06 09 00 01 00 00 02 62",
+        "A5 50 06 00 00 FF 00 00 02 57",
+    ] {
+        let (mut controller, before) = with_offsets();
+        answers(&mut controller, write, "07");
+        let status = [0x00, 0x20, 0x00, 0x00];
+        assert_eq!(*controller.settings(), Settings { status, ..before }, "{write}");
+        answers(&mut controller, BEZEL, "01 06 05 00 00 07 00 01 14");
+        answers(&mut controller, STATUS, "01 04 00 20 00 00 25");
+        answers(&mut controller, STATUS, NO_STATUS);
+    }
+}
+
+#[test]
+fn every_pair_of_signs() {
+    let (idle, before) = with_offsets();
+    for first in 0..=255 {
+        for second in 0..=255 {
+            let mut controller = idle.clone();
+            controller.run(0x50, &[0x09, 0x01, first, 0x03, 0x00, second]);
+            let after = controller.settings();
+            let signed = |amount: i32, sign| if sign == 0 { -amount } else { amount };
+            let (bezel, out_of_range) = if first < 2 && second < 2 {
+                ([signed(265, first), signed(3, second)], 0x00)
+            } else {
+                (before.bezel, 0x20)
+            };
+            assert_eq!(after.bezel, bezel, "{first} {second}");
+            assert_eq!(after.status[1], out_of_range, "{first} {second}");
+        }
+    }
+}
+
+#[test]
+fn a_sign_is_judged_after_all_else() {
+    for (write, response, status) in [
+        // A wrong sum.
+        ("A5 50 06 09 00 02 03 00 01 66", "02", "01 04 00 00 00 10 15"),
+        // Five data bytes, and seven.
+        ("A5 50 05 09 00 02 03 00 63", "05", "01 04 00 00 00 40 45"),
+        ("A5 50 07 09 00 02 03 00 01 00 66", "05", "01 04 00 00 00 40 45"),
+        ("A5 50 07 09 00 01 03 00 02 00 66", "05", "01 04 00 00 00 40 45"),
+    ] {
+        let (mut controller, before) = with_offsets();
+        answers(&mut controller, write, response);
+        answers(&mut controller, STATUS, status);
+        assert_eq!(*controller.settings(), before, "{write}");
+    }
+    for write in [
+        "A5 50 06 09 00 02 03 00 01 65",
+        "A5 50 06 09 00 01 03 00 FF 62",
+        "A5 50 05 09 00 02 03 00 63",
+    ] {
+        let (mut controller, before) = with_offsets();
+        answers(&mut controller, "A5 02 01 00 03", "01");
+        answers(&mut controller, write, "04");
+        answers(&mut controller, "A5 02 01 01 04", "01");
+        answers(&mut controller, STATUS, "01 04 04 00 00 00 09");
+        assert_eq!(*controller.settings(), before, "{write}");
+    }
+}
+
+#[test]
+fn an_order_with_a_sign_above_1_is_taken() {
+    let mut cab = Cab::restarted(0);
+    let mut office = Office::NeverOpened;
+    let open = office.open(3, 37).unwrap();
+    office.frame_in(&cab.frame_in(&open, 37).unwrap()).unwrap();
+    for (data, order, ack, offsets_and_status) in [
+        (
+            "05 00 00 07 00 01",
+            "12 06 00 03 00 00 00 01 00 21 07 00 50 05 00 00 07 00 01",
+            "13 06 00 03 00 00 00 01 00",
+            ["05 00 00 07 00 01", "00 00 00 00"],
+        ),
+        (
+            "09 00 01 03 00 02",
+            "12 06 00 03 00 00 00 02 00 21 07 00 50 09 00 01 03 00 02",
+            "13 06 00 03 00 00 00 02 00",
+            ["05 00 00 07 00 01", "00 20 00 00"],
+        ),
+        (
+            "FF 00 FF 03 00 00",
+            "12 06 00 03 00 00 00 03 00 21 07 00 50 FF 00 FF 03 00 00",
+            "13 06 00 03 00 00 00 03 00",
+            ["05 00 00 07 00 01", "00 20 00 00"],
+        ),
+        // The writer escapes this sign.
+        (
+            "00 00 A5 00 00 00",
+            "12 06 00 03 00 00 00 04 00 21 07 00 50 00 00 A5 00 00 00",
+            "13 06 00 03 00 00 00 04 00",
+            ["05 00 00 07 00 01", "00 20 00 80"],
+        ),
+        (
+            "02 00 01 00 00 00",
+            "12 06 00 03 00 00 00 05 00 21 07 00 50 02 00 01 00 00 00",
+            "13 06 00 03 00 00 00 05 00",
+            ["02 00 01 00 00 01", "00 20 00 80"],
+        ),
+    ] {
+        let (command, data) = (0x50, hex(data));
+        assert_eq!(office.issue(Order::Command { command, data }, 37), Ok(hex(order)));
+        assert_eq!(office.word(), Word::Waiting);
+        assert_eq!(cab.frame_in(&hex(order), 37), Ok(hex(ack)));
+        office.frame_in(&hex(ack)).unwrap();
+        assert_eq!(office.word(), Word::Settled);
+        let [offsets, status] = offsets_and_status;
+        let block = hex(&format!(
+            "00 00 01 00 00 00 00 00 00 {offsets} 00 00 00 00 00 00 00 00 {status}"
+        ));
+        assert_eq!(cab.controller().settings().to_block(), block, "{order}");
+        assert_eq!(office.settings().unwrap().to_block(), block, "{order}");
+    }
 }
 
 #[test]

@@ -1,10 +1,11 @@
 //! The controller written for speed: document 01's examples of the bus, with the bytes printed there,
-//! and random traffic beside the other controller.
+//! document 02's bezel sign, and random traffic beside the other controller.
 
 mod common;
 
 use common::hex;
 use reference::controller::Controller;
+use reference::packet::{Way, write_packet};
 use reference::rng::Rng;
 use reference::{plain, traffic};
 
@@ -122,6 +123,69 @@ impl Pair {
         for packet in first.into_iter().chain(rest) {
             let output = self.exchanged(&[&packet[..], &[0x00; 11]].concat());
             assert_eq!(output[packet.len()], 0x01, "{packet:02X?}");
+        }
+    }
+}
+
+#[test]
+fn signs() {
+    let status = "A5 67 00 67";
+    let answers = fresh_answers;
+    let offsets = ("A5 50 06 05 00 00 07 00 01 63", "01");
+    let bezel = "A5 51 00 51";
+    let unchanged = (bezel, "01 06 05 00 00 07 00 01 14");
+    for (write, read) in [
+        ("A5 50 06 05 00 00 07 00 00 62", "01 06 05 00 00 07 00 00 13"),
+        ("A5 50 06 05 00 01 07 00 00 63", "01 06 05 00 01 07 00 00 14"),
+        ("A5 50 06 05 00 01 07 00 01 64", "01 06 05 00 01 07 00 01 15"),
+        ("A5 50 06 00 00 00 00 00 00 56", "01 06 00 00 01 00 00 01 09"),
+    ] {
+        answers(&[(write, "01"), (bezel, read), (status, "01 04 00 00 00 00 05")]);
+    }
+    for write in [
+        "A5 50 06 09 00 02 03 00 01 65",
+        "A5 50 06 09 00 01 03 00 02 65",
+        "A5 50 06 09 00 02 03 00 02 66",
+        "A5 50 06 09 00 FF 03 00 01 62",
+        "A5 50 06 09 00 00 03 00 FF 61",
+        "A5 50 06 09 00 FF 03 00 FF 60",
+        "A5 50 06 00 00 02 03 00 01 5C",
+        "A5 50 06 09 00 01 00 00 02 62",
+    ] {
+        answers(&[
+            offsets,
+            (write, "07"),
+            unchanged,
+            (status, "01 04 00 20 00 00 25"),
+        ]);
+    }
+    for write in ["A5 50 05 09 00 02 03 00 63", "A5 50 07 09 00 01 03 00 02 00 66"] {
+        answers(&[
+            offsets,
+            (write, "05"),
+            unchanged,
+            (status, "01 04 00 00 00 40 45"),
+        ]);
+    }
+    answers(&[
+        offsets,
+        ("A5 02 01 00 03", "01"),
+        ("A5 50 06 09 00 02 03 00 01 65", "04"),
+        ("A5 02 01 01 04", "01"),
+        unchanged,
+        (status, "01 04 04 00 00 00 09"),
+    ]);
+
+    // Every pair of signs, each behind what the one before left.
+    let mut pair = Pair::fresh(0);
+    for first in 0..=255 {
+        for second in 0..=255 {
+            let data = [second, 0x01, first, first, 0x00, second];
+            let packet = write_packet(Way::Write, 0x28, &data, 516).unwrap();
+            let response = pair.exchanged(&[&packet[..], &[0x00]].concat())[packet.len()];
+            let expected = if first > 1 || second > 1 { 0x07 } else { 0x01 };
+            assert_eq!(response, expected, "{first} {second}");
+            pair.exchanged(&[&hex(bezel)[..], &[0x00; 9]].concat());
         }
     }
 }

@@ -4,10 +4,11 @@ use std::collections::{BTreeMap, BTreeSet};
 
 use reference::cab::Open;
 use reference::fault::{Fault, Wrong};
-use reference::link::{End, Frame};
+use reference::link::{End, Frame, Order};
 use reference::office::Office;
 use reference::refusal::Refusal;
 use reference::script::{Answer, Heard, ParseError, Simulation};
+use reference::settings::Settings;
 use reference::stream::Came;
 
 use super::*;
@@ -1103,10 +1104,10 @@ impl Tally {
             ("restart", _) if before.others().any(|office| office.settings().is_some()) => {
                 self.add("restart with another office open");
             }
-            ("issue-all", Answer::Frames(frames)) if !frames.is_empty() => {
-                if before.others().any(|office| office.settings().is_some()) {
-                    self.add("batch with another office open");
-                }
+            ("issue-all", Answer::Frames(frames))
+                if !frames.is_empty() && before.others().any(|office| office.settings().is_some()) =>
+            {
+                self.add("batch with another office open");
             }
             ("open", Answer::Frame(_)) => {
                 let over = matches!(before.office(), Office::Over(_));
@@ -1246,4 +1247,127 @@ fn wrong_choices_of_an_office_are_met() {
         let count = met.get(line).copied().unwrap_or(0);
         assert!(count >= 5, "{line} {count}");
     }
+}
+
+/// The packets that are whole on the bus, unescaped and without their start, each with the place behind it.
+fn packets(sent: &[u8]) -> Vec<(Vec<u8>, usize)> {
+    let mut packets = Vec::new();
+    let mut open: Option<Vec<u8>> = None;
+    let mut escape = false;
+    for (place, byte) in sent.iter().enumerate() {
+        match (*byte, &mut open) {
+            (0xA5, _) => (open, escape) = (Some(Vec::new()), false),
+            (0x5A, Some(_)) if !escape => escape = true,
+            (byte, Some(packet)) => {
+                packet.push(if escape && byte == 0x00 { 0xA5 } else { byte });
+                escape = false;
+                if packet.len() > 2 && packet.len() == usize::from(packet[1]) + 3 {
+                    packets.extend(open.take().map(|packet| (packet, place + 1)));
+                }
+            }
+            _ => {}
+        }
+    }
+    packets
+}
+
+/// The data of the bezel writes in a line for the bus whose length or data are refused.
+fn refused_on_bus(line: &[u8], out: &[u8]) -> Vec<Vec<u8>> {
+    let (words, _) = arguments(line);
+    let sent = words.iter().flat_map(|word| u8::from_str_radix(word, 16));
+    let packets = packets(&sent.collect::<Vec<u8>>()).into_iter();
+    packets
+        .filter(|(packet, behind)| packet[0] == 0x50 && matches!(out.get(*behind), Some(0x05 | 0x07)))
+        .map(|(packet, _)| packet[2..packet.len() - 1].to_vec())
+        .collect()
+}
+
+/// The data of the bezel writes among orders that a line issues, or that the box accepts.
+fn ordered(simulation: &Simulation, line: &[u8], answer: &Answer) -> Vec<Vec<u8>> {
+    let frames: Vec<Frame> = match (first_word(line), answer.bare()) {
+        ("command", Answer::Frame(frame)) => Frame::from_bytes(frame).into_iter().collect(),
+        ("issue-all", Answer::Frames(frames)) => frames
+            .iter()
+            .filter_map(|frame| Frame::from_bytes(frame))
+            .collect(),
+        _ => frames_for_box(simulation, line, answer)
+            .into_iter()
+            .filter(|(_, answer)| matches!(answer, Answer::Frame(_)))
+            .filter_map(|(frame, _)| frame)
+            .collect(),
+    };
+    let data = frames.into_iter().filter_map(|frame| match frame {
+        Frame::Order {
+            order: Order::Command { command: 0x50, data },
+            ..
+        } => Some(data),
+        _ => None,
+    });
+    data.collect()
+}
+
+#[test]
+fn bad_signs_are_met() {
+    // The signs, 2 for all above 1, and whether the amount of one of these is 0.
+    let mut signs_met: BTreeMap<(&str, [u8; 2], bool), usize> = BTreeMap::new();
+    let mut lengths_met: BTreeMap<(&str, usize), usize> = BTreeMap::new();
+    let mut values_met: BTreeSet<(&str, usize, u8)> = BTreeSet::new();
+    // Whether it would show that a part of a write was taken.
+    let shows = |held: &Settings| held.master && !held.bezel.contains(&0);
+    for (_, script) in scripts(CALLS, SEED) {
+        let mut simulation = Simulation::new();
+        for line in script.lines {
+            let office_shows = simulation.office().settings().is_some_and(shows);
+            let box_shows = shows(simulation.cab().controller().settings());
+            let Some(answer) = simulation.line(&line) else {
+                continue;
+            };
+            let (place, writes) = match (first_word(&line), &answer) {
+                ("bus", Answer::Bus(out)) => ("bus", refused_on_bus(&line, out)),
+                ("command", _) if office_shows => ("order", ordered(&simulation, &line, &answer)),
+                ("issue-all", _) if office_shows => ("batch", ordered(&simulation, &line, &answer)),
+                ("to-box" | "to-box-all" | "box-all" | "box-cut", _) if box_shows => {
+                    ("box", ordered(&simulation, &line, &answer))
+                }
+                _ => continue,
+            };
+            for data in writes {
+                let bad = |sign: &usize| data.get(*sign).is_some_and(|sign| *sign > 1);
+                let bad: Vec<usize> = [2, 5].into_iter().filter(bad).collect();
+                if bad.is_empty() {
+                    continue;
+                }
+                *lengths_met.entry((place, data.len())).or_default() += 1;
+                if data.len() == 6 {
+                    let signs = [data[2], data[5]].map(|sign| sign.min(2));
+                    let zero = bad.iter().any(|sign| data[sign - 2..*sign] == [0, 0]);
+                    *signs_met.entry((place, signs, zero)).or_default() += 1;
+                    values_met.extend(bad.iter().map(|sign| (place, *sign, data[*sign])));
+                }
+            }
+        }
+    }
+    println!("{signs_met:?} {lengths_met:?}");
+    for place in ["bus", "order", "batch", "box"] {
+        for signs in [[2, 0], [2, 1], [0, 2], [1, 2], [2, 2]] {
+            for (zero, least) in [(false, 20), (true, 5)] {
+                let key = (place, signs, zero);
+                let count = signs_met.get(&key).copied().unwrap_or(0);
+                assert!(count >= least, "{key:?} {count}");
+            }
+        }
+        for length in [5, 7] {
+            let key = (place, length);
+            let count = lengths_met.get(&key).copied().unwrap_or(0);
+            assert!(count >= 10, "{key:?} {count}");
+        }
+        for sign in [2, 5] {
+            for value in [0x02, 0x03, 0x5A, 0xA5, 0xFF] {
+                let key = (place, sign, value);
+                assert!(values_met.contains(&key), "{key:?}");
+            }
+        }
+    }
+    let values: BTreeSet<u8> = values_met.into_iter().map(|(_, _, value)| value).collect();
+    assert!(values.len() > 200, "{}", values.len());
 }

@@ -169,6 +169,14 @@ impl Generator {
         if settings.is_some_and(|settings| !settings.master) && self.rng.chance(35) {
             return b"command 02 01".to_vec();
         }
+        if self.rng.chance(12) {
+            // Offsets other than 0 first: then it shows if a refused write takes a part.
+            let data = match settings {
+                Some(settings) if !settings.bezel.contains(&0) => traffic::bad_signs(&mut self.rng),
+                _ => vec![0x05, 0x00, 0x00, 0x07, 0x00, 0x01],
+            };
+            return lines::hex(&mut self.rng, "command", &[&[0x50], &data[..]].concat());
+        }
         if self.rng.chance(55) {
             let most = self.rng.pick(&[17, 17, 18, 40, 255, 300]);
             let (command, data) = traffic::command(&mut self.rng, most);

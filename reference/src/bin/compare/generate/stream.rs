@@ -15,7 +15,7 @@ const FLOOD: usize = 66_000;
 impl Generator {
     /// Calls that touch no end.
     pub(super) fn stream(&mut self) {
-        match self.rng.weighted(&[500, 240, 1200, 14, 3]) {
+        match self.rng.weighted(&[500, 240, 1200, 14, 8]) {
             0 => self.wrap(),
             1 => {
                 self.emit("dropped");
