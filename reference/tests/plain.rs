@@ -130,7 +130,6 @@ impl Pair {
 #[test]
 fn signs() {
     let status = "A5 67 00 67";
-    let answers = fresh_answers;
     let offsets = ("A5 50 06 05 00 00 07 00 01 63", "01");
     let bezel = "A5 51 00 51";
     let unchanged = (bezel, "01 06 05 00 00 07 00 01 14");
@@ -140,7 +139,7 @@ fn signs() {
         ("A5 50 06 05 00 01 07 00 01 64", "01 06 05 00 01 07 00 01 15"),
         ("A5 50 06 00 00 00 00 00 00 56", "01 06 00 00 01 00 00 01 09"),
     ] {
-        answers(&[(write, "01"), (bezel, read), (status, "01 04 00 00 00 00 05")]);
+        fresh_answers(&[(write, "01"), (bezel, read), (status, "01 04 00 00 00 00 05")]);
     }
     for write in [
         "A5 50 06 09 00 02 03 00 01 65",
@@ -152,7 +151,7 @@ fn signs() {
         "A5 50 06 00 00 02 03 00 01 5C",
         "A5 50 06 09 00 01 00 00 02 62",
     ] {
-        answers(&[
+        fresh_answers(&[
             offsets,
             (write, "07"),
             unchanged,
@@ -160,14 +159,14 @@ fn signs() {
         ]);
     }
     for write in ["A5 50 05 09 00 02 03 00 63", "A5 50 07 09 00 01 03 00 02 00 66"] {
-        answers(&[
+        fresh_answers(&[
             offsets,
             (write, "05"),
             unchanged,
             (status, "01 04 00 00 00 40 45"),
         ]);
     }
-    answers(&[
+    fresh_answers(&[
         offsets,
         ("A5 02 01 00 03", "01"),
         ("A5 50 06 09 00 02 03 00 01 65", "04"),
