@@ -3,7 +3,7 @@ use Prim.Native.Nat.{ℕ, zero, suc, _+_, _*_, _/_, _%_}
 use native.Mathlib.Nat.{add-zero, mul-add-mod-self-right}
 use native.Mathlib.Omega.{arith}
 use mathlib.Core.Path.{_≡_, refl, sym, ap, _∙_, subst}
-use mathlib.Core.Bool.{Bool, true, false, cond, not, _&&_, and-comm}
+use mathlib.Core.Bool.{Bool, true, false, cond, not, _&&_, and-true, and-false}
 use mathlib.Core.List.{List, [], _∷_, _++_, foldr}
 use mathlib.Core.Option.{Option, some, Option·some-injective, Option·none-ne-some}
 use lib.ListN.{length, getD, drop}
@@ -16,6 +16,7 @@ use Rattle.packet.specs.Packet.{total, checksum}
 use Rattle.packet.specs.Reply.{success}
 use borrow.Author.Tests.{eqb-true}
 use Rattle.packet.specs.declared.writer.Access.the-variants.{Write, Read}
+use Rattle.bus.specs.declared.command.CommandRow.{CommandRow}
 use Rattle.bus.specs.declared.command.Lookup.{Lookup}
 use Rattle.bus.specs.declared.command.Performed.{Performed}
 use Rattle.settings.specs.declared.settings.Settings.{Settings}
@@ -24,7 +25,7 @@ use Rattle.settings.specs.declared.settings.Flag.the-variants.{NotAvailable, In
 use Rattle.settings.specs.Settings.{with-bezel, no-flags}
 use Rattle.bus.specs.declared.command.Register.{Register}
 use Rattle.bus.specs.declared.command.Register.the-variants.{Backlight, Master, Park, Splash, Strength, Heater, Bezel, Status, Pixels}
-use Rattle.bus.specs.Commands.{lookup, access, data-count, offset-bytes, offset-from, read, reply-of, failed, written, write-register, perform-offered, perform-found, perform-looked-up, perform}
+use Rattle.bus.specs.Commands.{lookup, access, offset-bytes, offset-from, read, reply-of, failed, written, write-register, perform-offered, perform-found, perform-looked-up, perform}
 use Rattle.settings.specs.Range.{StatusHeld}
 use Rattle.bus.specs.AsWritten.{
   number-at,
@@ -114,28 +115,16 @@ at-id id n {found} {later} {l} {m} here other = by-cases (eqb id n) refl
 
 pub table-alike : TableAlike
 unfolding lookup find table
-table-alike id = search (at-id, known, unknown, stored-bezel, stored-pixels, read-bezel) depth 20
-
--- by what the code's definitions say, register by register
-read-length : (σ : Settings) (r : Register) → length (read σ r) ≡ data-count r
-read-length σ Backlight = refl
-read-length σ Master = refl
-read-length σ Park = refl
-read-length σ Splash = refl
-read-length σ Strength = refl
-read-length σ Heater = refl
-read-length σ Bezel = refl
-read-length σ Status = refl
-read-length σ Pixels = refl
+table-alike id = search (at-id, known, unknown, and-true, and-false, stored-bezel, stored-pixels, read-bezel) depth 20
 
 pub read-counted : ReadCounted
-read-counted id row found σ = counted (table-alike id) found
+read-counted id paper found σ = counted (table-alike id) found
   where
-    counted : {o : Option Row} {l : Lookup} → Alike id o l → o ≡ some row → length (row .reads σ) ≡ row .count
-    counted unknown e = absurd (Option·none-ne-some row e)
-    counted (known row′ r at told) e =
-        let same-row : row′ ≡ row = Option·some-injective row′ row e in
-        subst (λ (x : Row). length (x .reads σ) ≡ x .count) same-row (ap length (sym (told .read-as σ)) ∙ read-length σ r ∙ told .write-length)
+    counted : {o : Option Row} {l : Lookup} → Alike id o l → o ≡ some paper → length (paper .reads σ) ≡ paper .count
+    counted unknown e = absurd (Option·none-ne-some paper e)
+    counted (known paper′ row at told) e =
+        let same-row : paper′ ≡ paper = Option·some-injective paper′ paper e in
+        subst (λ (x : Row). length (x .reads σ) ≡ x .count) same-row (ap length (sym (told .read-as σ)) ∙ told .counted σ ∙ told .write-length)
 
 -- ---- every packet
 
@@ -166,27 +155,27 @@ module _ (σ : Settings) (fits : StatusFits σ) where
   failed-same flag code = record { settled = sym (marked-alike σ fits flag .0); replied = refl; fitting = marked-alike σ fits flag .1 }
 
   -- the same checks in the same order
-  row-same : (row : Row) (r : Register) → Described row r → (is-read : Bool) (d : List ℕ) →
-      Same (command σ row is-read d) (perform-found σ (row .id) r (cond is-read Read Write) d)
+  row-same : (paper : Row) (row : CommandRow) → Described paper row → (is-read : Bool) (d : List ℕ) →
+      Same (command σ paper is-read d) (perform-found σ row (cond is-read Read Write) d)
   unfolding command perform-found perform-offered write-register
-  row-same row r told true d =
-      rw (and-comm (not (eqb (row .id) 0x01)) (eqb (σ .switches .master) 0), ← (told .read-as σ), ← (success-good-read (read σ r)))
-      (if-both Same (eqb (σ .switches .master) 0 && not (eqb (row .id) 0x01)) (failed-same NotAvailable 0x04)
+  row-same paper row told true d =
+      rw (told .available σ, told .named, ← (told .read-as σ), ← (success-good-read (read σ (row .register))))
+      (if-both Same (eqb (σ .switches .master) 0 && not (eqb (paper .id) 0x01)) (failed-same NotAvailable 0x04)
       (unless-both Same (eqb (length d) 0) (failed-same WrongLength 0x05)
-      (record { settled = refl; replied = refl; fitting = cond-cases StatusFits (eqb (row .id) 0x33) _ _ (λ e. no-flags-fit) (λ e. fits) })))
-  row-same row r told false d =
-      rw (told .writes, and-comm (not (eqb (row .id) 0x01)) (eqb (σ .switches .master) 0), told .write-length, told .limited d, ← (told .stored σ d))
-      (unless-both Same (row .writable) (failed-same InvalidCommand 0x03)
-      (if-both Same (eqb (σ .switches .master) 0 && not (eqb (row .id) 0x01)) (failed-same NotAvailable 0x04)
-      (unless-both Same (eqb (length d) (row .count)) (failed-same WrongLength 0x05)
-      (unless-both Same (row .accepted d) (failed-same OutOfRange 0x07)
-      (record { settled = refl; replied = refl; fitting = subst StatusHeld (sym (written-status σ r d)) fits })))))
+      (record { settled = refl; replied = refl; fitting = cond-cases StatusFits (eqb (paper .id) 0x33) _ _ (λ e. no-flags-fit) (λ e. fits) })))
+  row-same paper row told false d =
+      rw (told .writes, told .available σ, told .write-length, told .limited d, ← (told .stored σ d))
+      (unless-both Same (paper .writable) (failed-same InvalidCommand 0x03)
+      (if-both Same (eqb (σ .switches .master) 0 && not (eqb (paper .id) 0x01)) (failed-same NotAvailable 0x04)
+      (unless-both Same (eqb (length d) (paper .count)) (failed-same WrongLength 0x05)
+      (unless-both Same (paper .accepted d) (failed-same OutOfRange 0x07)
+      (record { settled = refl; replied = refl; fitting = subst StatusHeld (sym (written-status σ (row .register) d)) fits })))))
 
   -- a known register or an unknown ID
   found-same : (k : ℕ) {found : Option Row} {l : Lookup} → Alike (k / 2) found l → (d : List ℕ) → Same (command-found found σ (eqb (k % 2) 1) d) (perform-looked-up l σ k d)
   unfolding access
   found-same k unknown d = failed-same InvalidCommand 0x03
-  found-same k (known row r at told) d = rw (← at) (row-same row r told (eqb (k % 2) 1) d)
+  found-same k (known paper row at told) d = row-same paper row told (eqb (k % 2) 1) d
 
 -- both definitions do the same with every command byte and data
 pub same : (σ : Settings) (k : ℕ) (d : List ℕ) → StatusFits σ → Same (command-found (find (k / 2) table) σ (eqb (k % 2) 1) d) (perform σ k d)

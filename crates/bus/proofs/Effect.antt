@@ -17,6 +17,9 @@ use Rattle.bus.specs.declared.Phase.the-variants.{Idle, Command, Length,
 use Rattle.bus.specs.declared.Controller.{Controller}
 use Rattle.bus.specs.declared.command.Register.{Register}
 use Rattle.bus.specs.declared.command.Register.the-variants.{Bezel}
+use Rattle.bus.specs.declared.command.Ways.the-variants.{ReadWrite}
+use Rattle.bus.specs.declared.command.ModeRight.the-variants.{MasterOn}
+use Rattle.bus.specs.declared.command.CommandRow.{CommandRow}
 use Rattle.bus.specs.declared.command.Performed.{Performed}
 use Rattle.bus.specs.declared.command.Lookup.{Lookup}
 use Rattle.bus.specs.declared.command.Lookup.the-variants.{Found, Unknown}
@@ -24,7 +27,7 @@ use Rattle.settings.specs.declared.settings.Settings.{Settings}
 use Rattle.settings.specs.declared.settings.Flag.{Flag}
 use Rattle.settings.specs.declared.settings.Flag.the-variants.{Incomplete, NotAvailable, InvalidCommand, OutOfRange, EscapeSeen, WrongLength, BytesIgnored, WrongChecksum}
 use Rattle.settings.specs.Settings.{flagged, cleared}
-use Rattle.bus.specs.Commands.{lookup, access, offers, request-length, accepts, written, locked, write-register, execute, perform-offered, perform-found, perform-looked-up, perform}
+use Rattle.bus.specs.Commands.{command-row, lookup, access, offers, request-length, accepts, written, locked, write-register, execute, perform-offered, perform-found, perform-looked-up, perform}
 use Rattle.bus.specs.Bus.{is-idle, performed, judge, feed-at, inside, outside, start, after, exchange}
 use Rattle.bus.specs.CommandTheorems.{
   Known,
@@ -66,49 +69,52 @@ module _ (σ : Settings) (k : ℕ) (d : List ℕ) where
   abbrev Comes : Performed → Type 0
   Comes = CommandEffect σ k d
 
-  execute-outcome : (r : Register) (way : Access) → Requested σ k d r way → Comes (execute σ (k / 2) r way d)
+  execute-outcome : (row : CommandRow) (way : Access) → Requested σ k d row way → Comes (execute σ row way d)
   unfolding write-register
-  execute-outcome r Write passed = cond-cases Comes (accepts r d) _ _ (λ e. was-written passed e) (λ e. out-of-range passed e)
-  execute-outcome r Read passed = was-read passed
+  execute-outcome row Write passed = cond-cases Comes (accepts (row .register) d) _ _ (λ e. was-written passed e) (λ e. out-of-range passed e)
+  execute-outcome row Read passed = was-read passed
 
-  found-outcome : (r : Register) (way : Access) → Known k r way → Comes (perform-found σ (k / 2) r way d)
+  found-outcome : (row : CommandRow) (way : Access) → Known k row way → Comes (perform-found σ row way d)
   unfolding perform-found perform-offered
-  found-outcome r way known =
-      cond-cases Comes (offers (k / 2) way) _ _
-      (λ o. cond-cases Comes (locked σ (k / 2)) _ _ (λ l. not-available known o l)
-      (λ l. let available : Available σ k r way = record { known = known; offered = o; unlocked = l } in
-      cond-cases Comes (eqb (length d) (request-length r way)) _ _ (λ e. execute-outcome r way (record { available = available; whole = eqb-true _ _ e }))
+  found-outcome row way known =
+      cond-cases Comes (offers row way) _ _
+      (λ o. cond-cases Comes (locked σ row) _ _ (λ l. not-available known o l)
+      (λ l. let available : Available σ k row way = record { known = known; offered = o; unlocked = l } in
+      cond-cases Comes (eqb (length d) (request-length row way)) _ _ (λ e. execute-outcome row way (record { available = available; whole = eqb-true _ _ e }))
       (λ e. wrong-length available (eqb-false _ _ e))))
       (λ o. no-such-way known o)
 
   looked-up-outcome : (l : Lookup) → lookup (k / 2) ≡ l → Comes (perform-looked-up l σ k d)
-  looked-up-outcome (Found r) e = found-outcome r (access k) (record { found = e; asked = refl })
+  looked-up-outcome (Found row) e = found-outcome row (access k) (record { found = e; asked = refl })
   looked-up-outcome Unknown e = unknown-id e
 
 pub perform-outcome : PerformOutcome
 perform-outcome σ k d = looked-up-outcome σ k d (lookup (k / 2)) refl
 
 -- a command that passes the checks up to its length is executed
-executed : (σ : Settings) (k : ℕ) (d : List ℕ) (r : Register) (way : Access) → Requested σ k d r way → perform σ k d ≡ execute σ (k / 2) r way d
+executed : (σ : Settings) (k : ℕ) (d : List ℕ) (row : CommandRow) (way : Access) → Requested σ k d row way → perform σ k d ≡ execute σ row way d
 unfolding perform-found perform-offered
-executed σ k d r way passed =
+executed σ k d row way passed =
     let available = passed .available in
     rw (available .known .found, available .known .asked) (simp (available .offered, available .unlocked, eq-eqb _ _ (passed .whole)))
 
 pub perform-writes : PerformWrites
 unfolding write-register
-perform-writes σ k d r passed fits = executed σ k d r Write passed ∙ rw fits
+perform-writes σ k d row passed fits = executed σ k d row Write passed ∙ rw fits
 
 pub perform-reads : PerformReads
-perform-reads σ k d r passed = executed σ k d r Read passed
+perform-reads σ k d row passed = executed σ k d row Read passed
 
 pub signs-judged : SignsJudged
 unfolding lookup access write-register
 signs-judged σ h-low h-high h-sign v-low v-high v-sign on =
-    let available : Available σ 0x50 Bezel Write = record { known = record { found = refl; asked = refl }; offered = refl; unlocked = ne-eqb _ _ on } in
-    let passed : Requested σ 0x50 d Bezel Write = record { available = available; whole = refl } in
-    (λ h v. perform-writes σ 0x50 d Bezel passed (simp (le-leb h-sign 1 h, le-leb v-sign 1 v)), λ above. executed σ 0x50 d Bezel Write passed ∙ rw (one-above above))
+    let available : Available σ 0x50 bezel Write = record { known = record { found = refl; asked = refl }; offered = refl; unlocked = ne-eqb _ _ on } in
+    let passed : Requested σ 0x50 d bezel Write = record { available = available; whole = refl } in
+    (λ h v. perform-writes σ 0x50 d bezel passed (simp (le-leb h-sign 1 h, le-leb v-sign 1 v)), λ above. executed σ 0x50 d bezel Write passed ∙ rw (one-above above))
   where
+    bezel : CommandRow
+    bezel = command-row 0x28 Bezel ReadWrite 6 MasterOn
+
     d : List ℕ
     d = h-low ∷ h-high ∷ h-sign ∷ v-low ∷ v-high ∷ v-sign ∷ []
 
@@ -127,8 +133,8 @@ command-keeps P σ k d same none-set flag-set register-written = by-cases (perfo
     by-cases (not-available _ _ _) = flag-set NotAvailable
     by-cases (wrong-length _ _) = flag-set WrongLength
     by-cases (out-of-range _ _) = flag-set OutOfRange
-    by-cases (was-written {r} _ fits) = register-written r fits
-    by-cases (was-read _) = cond-cases P (eqb (k / 2) 0x33) _ _ (λ _. none-set) (λ _. same)
+    by-cases (was-written {row} _ fits) = register-written (row .register) fits
+    by-cases (was-read {row} _) = cond-cases P (eqb (row .id) 0x33) _ _ (λ _. none-set) (λ _. same)
 
 -- ---- one exchange
 

@@ -15,6 +15,7 @@ use Rattle.packet.specs.declared.writer.Access.{Access}
 use Rattle.packet.specs.declared.writer.Access.the-variants.{Write, Read}
 use Rattle.bus.specs.declared.Phase.the-variants.{Idle}
 use Rattle.bus.specs.declared.Controller.{Controller}
+use Rattle.bus.specs.declared.command.CommandRow.{CommandRow}
 use Rattle.bus.specs.declared.command.Lookup.{Lookup}
 use Rattle.bus.specs.declared.command.Lookup.the-variants.{Found, Unknown}
 use Rattle.bus.specs.declared.command.Performed.{Performed}
@@ -76,17 +77,20 @@ success-length : (bytes : List ℕ) → length (success bytes) ≡ length bytes 
 unfolding success
 success-length bytes = simp length-append (omega arith)
 
-execute-replying : (σ : Settings) (id : ℕ) (r : Register) (way : Access) (d : List ℕ) → Replying (execute σ id r way d)
+execute-replying : (σ : Settings) (row : CommandRow) (way : Access) (d : List ℕ) → Replying (execute σ row way d)
 unfolding write-register
-execute-replying σ id r Write d = either (accepts r d) (one-byte 0x01) (one-byte 0x07)
-execute-replying σ id r Read d = record { bytes = success (read σ r); short = omega (arith, success-length (read σ r), read-short σ r); is-reply = refl }
+execute-replying σ row Write d = either (accepts (row .register) d) (one-byte 0x01) (one-byte 0x07)
+execute-replying σ row Read d =
+    let bytes = read σ (row .register) in
+    record { bytes = success bytes; short = omega (arith, success-length bytes, read-short σ (row .register)); is-reply = refl }
 
 looked-up-replying : (l : Lookup) (σ : Settings) (k : ℕ) (d : List ℕ) → Replying (perform-looked-up l σ k d)
 unfolding perform-found perform-offered
 looked-up-replying Unknown σ k d = one-byte 0x03
-looked-up-replying (Found r) σ k d =
-    either (offers (k / 2) (access-of k))
-    (either (locked σ (k / 2)) (one-byte 0x04) (either (eqb (length d) (request-length r (access-of k))) (execute-replying σ (k / 2) r (access-of k) d) (one-byte 0x05)))
+looked-up-replying (Found row) σ k d =
+    let way = access-of k in
+    either (offers row way)
+    (either (locked σ row) (one-byte 0x04) (either (eqb (length d) (request-length row way)) (execute-replying σ row way d) (one-byte 0x05)))
     (one-byte 0x03)
 
 replying : (σ : Settings) (k : ℕ) (d : List ℕ) → Replying (perform σ k d)

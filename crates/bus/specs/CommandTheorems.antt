@@ -1,7 +1,7 @@
 -- What is proved of a command that is performed.
 use Prim.Native.Nat.{ℕ, _/_, _%_, _≤_, _<_}
 use mathlib.Core.Path.{_≡_}
-use mathlib.Core.Bool.{true, false}
+use mathlib.Core.Bool.{true, false, not, _&&_}
 use mathlib.Core.List.{List, [], _∷_}
 use mathlib.Core.Option.{Option, none, some}
 use mathlib.Core.Logic.{_⊎_}
@@ -15,6 +15,7 @@ use Rattle.settings.specs.declared.settings.Flag.the-variants.{NotAvailable, In
 use Rattle.settings.specs.Range.{StatusHeld, Held}
 use Rattle.bus.specs.declared.command.Register.{Register}
 use Rattle.bus.specs.declared.command.Register.the-variants.{Bezel}
+use Rattle.bus.specs.declared.command.CommandRow.{CommandRow}
 use Rattle.bus.specs.declared.command.Lookup.{Lookup}
 use Rattle.bus.specs.declared.command.Lookup.the-variants.{Found, Unknown}
 use Rattle.bus.specs.declared.command.Performed.{Performed}
@@ -23,22 +24,26 @@ use Rattle.bus.specs.AsWritten.{Row, table, find, command-found}
 
 -- ---- the registers as the paper's table has them
 
--- a row of the paper's table says of a register what Commands.antt says of it: its ways, its two lengths, its range, what it stores and what it reads as
-pub record Described (row : Row) (r : Register) : Type 0 where
-  pub writes : offers (row .id) Write ≡ row .writable
-  pub reads : offers (row .id) Read ≡ true
-  pub write-length : request-length r Write ≡ row .count
-  pub read-length : request-length r Read ≡ 0
-  pub limited : (d : List ℕ) → accepts r d ≡ row .accepted d
-  pub stored : (σ : Settings) (d : List ℕ) → written σ r d ≡ row .stores σ d
-  pub read-as : (σ : Settings) → read σ r ≡ row .reads σ
+-- a row of the paper's table says what a row of Commands.antt and the rules for its register say: its ID, its ways, when it is available, its two
+-- lengths, its range, what it stores and what it reads as
+pub record Described (paper : Row) (row : CommandRow) : Type 0 where
+  pub named : row .id ≡ paper .id
+  pub writes : offers row Write ≡ paper .writable
+  pub reads : offers row Read ≡ true
+  pub available : (σ : Settings) → locked σ row ≡ eqb (σ .switches .master) 0 && not (eqb (paper .id) 0x01)
+  pub write-length : request-length row Write ≡ paper .count
+  pub read-length : request-length row Read ≡ 0
+  pub limited : (d : List ℕ) → accepts (row .register) d ≡ paper .accepted d
+  pub stored : (σ : Settings) (d : List ℕ) → written σ (row .register) d ≡ paper .stores σ d
+  pub read-as : (σ : Settings) → read σ (row .register) ≡ paper .reads σ
+  pub counted : (σ : Settings) → length (read σ (row .register)) ≡ row .count
 
--- no register, or that of a row with this ID
+-- no row in either, or the rows with this ID
 pub data Alike (id : ℕ) : Option Row → Lookup → Type 0 where
   unknown : Alike id none Unknown
-  known : (row : Row) (r : Register) → row .id ≡ id → Described row r → Alike id (some row) (Found r)
+  known : (paper : Row) (row : CommandRow) → paper .id ≡ id → Described paper row → Alike id (some paper) (Found row)
 
--- at every ID both definitions know no register, or the same one
+-- at every ID both tables have no row, or one that says the same
 abbrev pub TableAlike : Type 0
 TableAlike = (id : ℕ) → Alike id (find id table) (lookup id)
 
@@ -59,21 +64,21 @@ PerformedAlike =
 
 -- ---- when a command takes effect
 
--- the ID of the command byte k is known, and it asks for this way of access
-pub record Known (k : ℕ) (r : Register) (way : Access) : Type 0 where
-  pub found : lookup (k / 2) ≡ Found r
+-- the ID of the command byte k has a row, and it asks for this way of access
+pub record Known (k : ℕ) (row : CommandRow) (way : Access) : Type 0 where
+  pub found : lookup (k / 2) ≡ Found row
   pub asked : access k ≡ way
 
 -- the way is offered, and master does not lock the register: 01's checks 2 and 3 are passed
-pub record Available (σ : Settings) (k : ℕ) (r : Register) (way : Access) : Type 0 where
-  pub known : Known k r way
-  pub offered : offers (k / 2) way ≡ true
-  pub unlocked : locked σ (k / 2) ≡ false
+pub record Available (σ : Settings) (k : ℕ) (row : CommandRow) (way : Access) : Type 0 where
+  pub known : Known k row way
+  pub offered : offers row way ≡ true
+  pub unlocked : locked σ row ≡ false
 
 -- so is check 4: the length is right, which for a read is 0
-pub record Requested (σ : Settings) (k : ℕ) (d : List ℕ) (r : Register) (way : Access) : Type 0 where
-  pub available : Available σ k r way
-  pub whole : length d ≡ request-length r way
+pub record Requested (σ : Settings) (k : ℕ) (d : List ℕ) (row : CommandRow) (way : Access) : Type 0 where
+  pub available : Available σ k row way
+  pub whole : length d ≡ request-length row way
 
 abbrev pub write-performed : Settings → Register → List ℕ → Performed
 write-performed σ r d = record { settings = written σ r d; reply = reply-of (0x01 ∷ []) }
@@ -82,12 +87,12 @@ write-performed σ r d = record { settings = written σ r d; reply = reply-of (0
 -- and an effect where every check is passed
 pub data CommandEffect (σ : Settings) (k : ℕ) (d : List ℕ) : Performed → Type 0 where
   unknown-id : lookup (k / 2) ≡ Unknown → CommandEffect σ k d (failed σ InvalidCommand 0x03)
-  no-such-way : {r : Register} {way : Access} → Known k r way → offers (k / 2) way ≡ false → CommandEffect σ k d (failed σ InvalidCommand 0x03)
-  not-available : {r : Register} {way : Access} → Known k r way → offers (k / 2) way ≡ true → locked σ (k / 2) ≡ true → CommandEffect σ k d (failed σ NotAvailable 0x04)
-  wrong-length : {r : Register} {way : Access} → Available σ k r way → (length d ≡ request-length r way → ⊥) → CommandEffect σ k d (failed σ WrongLength 0x05)
-  out-of-range : {r : Register} → Requested σ k d r Write → accepts r d ≡ false → CommandEffect σ k d (failed σ OutOfRange 0x07)
-  was-written : {r : Register} → Requested σ k d r Write → accepts r d ≡ true → CommandEffect σ k d (write-performed σ r d)
-  was-read : {r : Register} → Requested σ k d r Read → CommandEffect σ k d (read-register σ (k / 2) r)
+  no-such-way : {row : CommandRow} {way : Access} → Known k row way → offers row way ≡ false → CommandEffect σ k d (failed σ InvalidCommand 0x03)
+  not-available : {row : CommandRow} {way : Access} → Known k row way → offers row way ≡ true → locked σ row ≡ true → CommandEffect σ k d (failed σ NotAvailable 0x04)
+  wrong-length : {row : CommandRow} {way : Access} → Available σ k row way → (length d ≡ request-length row way → ⊥) → CommandEffect σ k d (failed σ WrongLength 0x05)
+  out-of-range : {row : CommandRow} → Requested σ k d row Write → accepts (row .register) d ≡ false → CommandEffect σ k d (failed σ OutOfRange 0x07)
+  was-written : {row : CommandRow} → Requested σ k d row Write → accepts (row .register) d ≡ true → CommandEffect σ k d (write-performed σ (row .register) d)
+  was-read : {row : CommandRow} → Requested σ k d row Read → CommandEffect σ k d (read-register σ (row .id) (row .register))
 
 -- every command comes to one of these
 abbrev pub PerformOutcome : Type 0
@@ -95,10 +100,12 @@ PerformOutcome = (σ : Settings) (k : ℕ) (d : List ℕ) → CommandEffect σ k
 
 -- and one that passes every check takes effect
 abbrev pub PerformWrites : Type 0
-PerformWrites = (σ : Settings) (k : ℕ) (d : List ℕ) (r : Register) → Requested σ k d r Write → accepts r d ≡ true → perform σ k d ≡ write-performed σ r d
+PerformWrites =
+    (σ : Settings) (k : ℕ) (d : List ℕ) (row : CommandRow) → Requested σ k d row Write → accepts (row .register) d ≡ true →
+    perform σ k d ≡ write-performed σ (row .register) d
 
 abbrev pub PerformReads : Type 0
-PerformReads = (σ : Settings) (k : ℕ) (d : List ℕ) (r : Register) → Requested σ k d r Read → perform σ k d ≡ read-register σ (k / 2) r
+PerformReads = (σ : Settings) (k : ℕ) (d : List ℕ) (row : CommandRow) → Requested σ k d row Read → perform σ k d ≡ read-register σ (row .id) (row .register)
 
 -- document 02, Ask 4: while master is on, a write of the bezel offsets, horizontal then vertical, takes effect where both signs are 0 or 1; where either is
 -- above, the response is 07, "out of range" is set, and all else is as it was

@@ -1,7 +1,7 @@
 -- The registers and their commands: document 01, "The registers and their commands".
 use Prim.Native.Nat.{ℕ, _/_, _%_}
 use lib.IntN.{ℤ}
-use mathlib.Core.Bool.{Bool, true, cond, not, _&&_}
+use mathlib.Core.Bool.{Bool, true, false, cond, _&&_}
 use mathlib.Core.List.{List, [], _∷_, _++_}
 use lib.ListN.{length, getD, drop, replicate}
 use lib.Dec.{eqb, leb}
@@ -23,6 +23,11 @@ use Rattle.bus.specs.declared.command.Register.the-variants.{
   Status,
   Pixels,
 }
+use Rattle.bus.specs.declared.command.Ways.{Ways}
+use Rattle.bus.specs.declared.command.Ways.the-variants.{ReadWrite, ReadOnly}
+use Rattle.bus.specs.declared.command.ModeRight.{ModeRight}
+use Rattle.bus.specs.declared.command.ModeRight.the-variants.{Always, MasterOn}
+use Rattle.bus.specs.declared.command.CommandRow.{CommandRow}
 use Rattle.bus.specs.declared.command.Lookup.{Lookup}
 use Rattle.bus.specs.declared.command.Lookup.the-variants.{Found, Unknown}
 use Rattle.bus.specs.declared.command.ReplyBytes.{ReplyBytes}
@@ -50,44 +55,59 @@ use Rattle.settings.specs.Settings.{
 }
 use Rattle.settings.specs.Range.{switch-limit, strength-limit, duty-limit, sign-limit}
 
+-- ---- the command table
+
+abbrev pub command-row : ℕ → Register → Ways → ℕ → ModeRight → CommandRow
+command-row id register ways count right = record { id = id; register = register; ways = ways; count = count; right = right }
+
+-- ID, register, ways, data count, mode right
+abbrev pub command-rows : List CommandRow
+command-rows =
+    command-row 0x00 Backlight ReadWrite 2 MasterOn
+    ∷ command-row 0x01 Master ReadWrite 1 Always
+    ∷ command-row 0x02 Park ReadWrite 1 MasterOn
+    ∷ command-row 0x25 Splash ReadWrite 1 MasterOn
+    ∷ command-row 0x26 Strength ReadWrite 1 MasterOn
+    ∷ command-row 0x27 Heater ReadWrite 3 MasterOn
+    ∷ command-row 0x28 Bezel ReadWrite 6 MasterOn
+    ∷ command-row 0x33 Status ReadOnly 4 MasterOn
+    ∷ command-row 0x53 Pixels ReadWrite 8 MasterOn
+    ∷ []
+
+abbrev pub find-row : ℕ → List CommandRow → Lookup
+find-row id [] = Unknown
+find-row id (row ∷ rows) = cond (eqb id (row .id)) (Found row) (find-row id rows)
+
 -- ---- what a command byte asks for
 
+-- the row with this ID
 unfoldable pub lookup : ℕ → Lookup
-lookup id =
-    cond (eqb id 0x00) (Found Backlight)
-    (cond (eqb id 0x01) (Found Master)
-    (cond (eqb id 0x02) (Found Park)
-    (cond (eqb id 0x25) (Found Splash)
-    (cond (eqb id 0x26) (Found Strength)
-    (cond (eqb id 0x27) (Found Heater)
-    (cond (eqb id 0x28) (Found Bezel)
-    (cond (eqb id 0x33) (Found Status)
-    (cond (eqb id 0x53) (Found Pixels)
-    Unknown))))))))
+lookup id = find-row id command-rows
 
 unfoldable pub access : ℕ → Access
 access command = cond (eqb (command % 2) 1) Read Write
 
--- whether a register, by its ID, has that way: status is not written
-abbrev pub offers : ℕ → Access → Bool
-offers id Write = not (eqb id 0x33)
-offers id Read = true
+-- every register is read
+abbrev pub includes : Ways → Access → Bool
+includes ReadWrite Write = true
+includes ReadOnly Write = false
+includes ways Read = true
 
--- the data of a write, and of a read's reply
-abbrev pub data-count : Register → ℕ
-data-count Backlight = 2
-data-count Master = 1
-data-count Park = 1
-data-count Splash = 1
-data-count Strength = 1
-data-count Heater = 3
-data-count Bezel = 6
-data-count Status = 4
-data-count Pixels = 8
+abbrev pub offers : CommandRow → Access → Bool
+offers row way = includes (row .ways) way
 
-abbrev pub request-length : Register → Access → ℕ
-request-length r Write = data-count r
-request-length r Read = 0
+-- the data of a command: of a read there are none
+abbrev pub request-length : CommandRow → Access → ℕ
+request-length row Write = row .count
+request-length row Read = 0
+
+-- whether a mode right keeps a command from its effect, with master so
+abbrev pub denies : ModeRight → ℕ → Bool
+denies Always master = false
+denies MasterOn master = eqb master 0
+
+abbrev pub locked : Settings → CommandRow → Bool
+locked σ row = denies (row .right) (σ .switches .master)
 
 -- ---- which data a write accepts
 
@@ -202,25 +222,21 @@ after-read σ id = cond (eqb id 0x33) (cleared σ) σ
 abbrev pub read-register : Settings → ℕ → Register → Performed
 read-register σ id r = record { settings = after-read σ id; reply = reply-of (success (read σ r)) }
 
-abbrev pub execute : Settings → ℕ → Register → Access → List ℕ → Performed
-execute σ id r Write d = write-register σ r d
-execute σ id r Read d = read-register σ id r
+abbrev pub execute : Settings → CommandRow → Access → List ℕ → Performed
+execute σ row Write d = write-register σ (row .register) d
+execute σ row Read d = read-register σ (row .id) (row .register)
 
--- master off leaves only its own register
-abbrev pub locked : Settings → ℕ → Bool
-locked σ id = not (eqb id 0x01) && eqb (σ .switches .master) 0
-
-unfoldable pub perform-offered : Settings → ℕ → Register → Access → List ℕ → Performed
-perform-offered σ id r way d =
-    cond (locked σ id) (failed σ NotAvailable 0x04)
-    (cond (eqb (length d) (request-length r way)) (execute σ id r way d)
+unfoldable pub perform-offered : Settings → CommandRow → Access → List ℕ → Performed
+perform-offered σ row way d =
+    cond (locked σ row) (failed σ NotAvailable 0x04)
+    (cond (eqb (length d) (request-length row way)) (execute σ row way d)
     (failed σ WrongLength 0x05))
 
-unfoldable pub perform-found : Settings → ℕ → Register → Access → List ℕ → Performed
-perform-found σ id r way d = cond (offers id way) (perform-offered σ id r way d) (failed σ InvalidCommand 0x03)
+unfoldable pub perform-found : Settings → CommandRow → Access → List ℕ → Performed
+perform-found σ row way d = cond (offers row way) (perform-offered σ row way d) (failed σ InvalidCommand 0x03)
 
 abbrev pub perform-looked-up : Lookup → Settings → ℕ → List ℕ → Performed
-perform-looked-up (Found r) σ command d = perform-found σ (command / 2) r (access command) d
+perform-looked-up (Found row) σ command d = perform-found σ row (access command) d
 perform-looked-up Unknown σ command d = failed σ InvalidCommand 0x03
 
 -- the checks after the checksum, and the command's effect and reply

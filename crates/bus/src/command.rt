@@ -16,9 +16,30 @@ pub enum Register {
     Pixels,
 }
 
+// Which ways of access a register has.
+pub enum Ways {
+    ReadWrite,
+    ReadOnly,
+}
+
+// When a register's commands are available (mode right): at any time, or while master is on.
+pub enum ModeRight {
+    Always,
+    MasterOn,
+}
+
+// A row of the command table. The count is that of a write's data, and of the data in a read's reply.
+pub struct CommandRow {
+    pub id: u8,
+    pub register: Register,
+    pub ways: Ways,
+    pub count: u8,
+    pub right: ModeRight,
+}
+
 // What an ID stands for.
 pub enum Lookup {
-    Found(Register),
+    Found(CommandRow),
     Unknown,
 }
 

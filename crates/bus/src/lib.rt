@@ -1,11 +1,14 @@
 // What the stand-in controller holds. The rules of its byte exchange and of its commands are in specs/, the code that keeps them in controller and registers.
 mod command;
 
+pub use command::CommandRow;
 pub use command::Lookup;
+pub use command::ModeRight;
 pub use command::Performed;
 pub use command::REPLY_LIMIT;
 pub use command::Register;
 pub use command::ReplyBytes;
+pub use command::Ways;
 pub use command::response;
 use settings::Settings;
 ghost use mathlib.Core.Path.{_≡_};

@@ -1,75 +1,62 @@
 // What each command does to the settings, and what it answers.
 use crate::lookup::access;
-use crate::lookup::lookup_id;
 use crate::lookup::offers;
 use crate::lookup::request_length;
 use crate::reads::read_register;
 use crate::reply::failed;
 use crate::writes::write_register;
+use bus::CommandRow;
 use bus::Lookup;
+use bus::ModeRight;
 use bus::Performed;
-use bus::Register;
+use command_table::lookup_command;
 use packet::Access;
 use settings::Flag;
 use settings::Settings;
 ghost use mathlib.Core.Path.{_≡_};
 ghost use Rattle.bus.specs.Commands as spec;
 
-fn execute(
-    settings: Settings,
-    id: u8,
-    register: Register,
-    access: Access,
-    bytes: &[u8],
-) -> Performed
-    ensures { λ r. ⌜ r ≡ spec.execute settings id register access (now (bytes .entry)) ⌝ }
+fn execute(settings: Settings, row: CommandRow, access: Access, bytes: &[u8]) -> Performed
+    ensures { λ r. ⌜ r ≡ spec.execute settings row access (now (bytes .entry)) ⌝ }
 {
+    let register = row.register;
     match access {
         Access::Write => write_register(settings, register, bytes),
-        Access::Read => read_register(settings, id, register),
+        Access::Read => read_register(settings, row.id, register),
     }
 }
 
 // Whether master is off and keeps a register from its commands.
-fn locked(settings: Settings, id: u8) -> bool
-    ensures { λ r. ⌜ r ≡ spec.locked settings id ⌝ }
+fn locked(settings: Settings, row: CommandRow) -> bool
+    ensures { λ r. ⌜ r ≡ spec.locked settings row ⌝ }
 {
-    if id == 0x01 {
-        return false;
+    let right = row.right;
+    match right {
+        ModeRight::Always => false,
+        ModeRight::MasterOn => {
+            let switches = settings.switches;
+            switches.master == 0
+        }
     }
-    let switches = settings.switches;
-    switches.master == 0
 }
 
-fn perform_offered(
-    settings: Settings,
-    id: u8,
-    register: Register,
-    access: Access,
-    bytes: &[u8],
-) -> Performed
-    ensures { λ r. ⌜ r ≡ spec.perform-offered settings id register access (now (bytes .entry)) ⌝ }
+fn perform_offered(settings: Settings, row: CommandRow, access: Access, bytes: &[u8]) -> Performed
+    ensures { λ r. ⌜ r ≡ spec.perform-offered settings row access (now (bytes .entry)) ⌝ }
 {
-    if locked(settings, id) {
+    if locked(settings, row) {
         return failed(settings, Flag::NotAvailable, 0x04);
     }
-    if bytes.len() == request_length(register, access) {
-        return execute(settings, id, register, access, bytes);
+    if bytes.len() == request_length(row, access) {
+        return execute(settings, row, access, bytes);
     }
     failed(settings, Flag::WrongLength, 0x05)
 }
 
-fn perform_found(
-    settings: Settings,
-    id: u8,
-    register: Register,
-    access: Access,
-    bytes: &[u8],
-) -> Performed
-    ensures { λ r. ⌜ r ≡ spec.perform-found settings id register access (now (bytes .entry)) ⌝ }
+fn perform_found(settings: Settings, row: CommandRow, access: Access, bytes: &[u8]) -> Performed
+    ensures { λ r. ⌜ r ≡ spec.perform-found settings row access (now (bytes .entry)) ⌝ }
 {
-    if offers(id, access) {
-        return perform_offered(settings, id, register, access, bytes);
+    if offers(row, access) {
+        return perform_offered(settings, row, access, bytes);
     }
     failed(settings, Flag::InvalidCommand, 0x03)
 }
@@ -78,10 +65,9 @@ fn perform_found(
 pub fn perform(settings: Settings, command: u8, bytes: &[u8]) -> Performed
     ensures { λ r. ⌜ r ≡ spec.perform settings command (now (bytes .entry)) ⌝ }
 {
-    let id = command / 2;
-    let found = lookup_id(id);
+    let found = lookup_command(command);
     match found {
-        Lookup::Found(register) => perform_found(settings, id, register, access(command), bytes),
+        Lookup::Found(row) => perform_found(settings, row, access(command), bytes),
         Lookup::Unknown => failed(settings, Flag::InvalidCommand, 0x03),
     }
 }

@@ -3,8 +3,8 @@ use Rattle.base.proofs.Tests.{tests}
 use Rattle.registers.proofs.command.perform.Statement.{statement}
 use Rattle.registers.proofs.command.perform.Tie as tie
 
-lookup-id-requires : tie.Need-lookup-id-requires
-lookup-id-requires c κs = search needs
+lookup-command-requires : tie.Need-lookup-command-requires
+lookup-command-requires c κs = search needs
 
 enum-known-found : tie.Need-enum-known-found
 enum-known-found c = search needs
@@ -22,16 +22,16 @@ failed-requires : tie.Need-failed-requires
 failed-requires c κs = search needs
 
 returns : tie.Need-returns
-returns c = search (needs, tests, c .perform-found .ensures, c .before .access .ensures, c .before .before .before .found .given .1, ← (c .before .before .before .before .before .lookup-id .ensures))
+returns c = search (needs, tests, c .perform-found .ensures, c .before .access .ensures, c .before .before .before .found .given .1, ← (c .before .before .before .before .before .lookup-command .ensures))
 
 returns-2 : tie.Need-returns-2
-returns-2 c = search (needs, tests, c .failed .ensures, c .before .enum-told .given .1, ← (c .before .before .before .lookup-id .ensures))
+returns-2 c = search (needs, tests, c .failed .ensures, c .before .enum-told .given .1, ← (c .before .before .before .lookup-command .ensures))
 
 pub perform-spec : {M : Type 1} → statement M
 perform-spec =
     tie.close
     (tie.spec
-    lookup-id-requires
+    lookup-command-requires
     enum-known-found
     access-requires
     perform-found-requires
