@@ -1,0 +1,48 @@
+use borrow.Author.Needs.{needs}
+use Rattle.base.proofs.Tests.{tests}
+use Rattle.lookup_bench.specs.ByMatch.{match-id}
+use Rattle.lookup_bench.proofs.by_match.match_id.Statement.{statement}
+use Rattle.lookup_bench.proofs.by_match.match_id.Tie as tie
+
+returns : tie.Need-returns
+unfolding match-id
+returns c = rw (c .match .keys1)
+
+returns-2 : tie.Need-returns-2
+unfolding match-id
+returns-2 c = rw (c .match .keys2)
+
+returns-3 : tie.Need-returns-3
+unfolding match-id
+returns-3 c = rw (c .match .keys3)
+
+returns-4 : tie.Need-returns-4
+unfolding match-id
+returns-4 c = rw (c .match .keys4)
+
+returns-5 : tie.Need-returns-5
+unfolding match-id
+returns-5 c = rw (c .match .keys5)
+
+returns-6 : tie.Need-returns-6
+unfolding match-id
+returns-6 c = rw (c .match .keys6)
+
+returns-7 : tie.Need-returns-7
+unfolding match-id
+returns-7 c = rw (c .match .keys7)
+
+returns-8 : tie.Need-returns-8
+unfolding match-id
+returns-8 c = rw (c .match .keys8)
+
+returns-9 : tie.Need-returns-9
+unfolding match-id
+returns-9 c = rw (c .match .keys9)
+
+returns-10 : tie.Need-returns-10
+unfolding match-id
+returns-10 c = search (needs, tests)
+
+pub match-id-spec : {M : Type 1} → statement M
+match-id-spec = tie.close (tie.spec returns returns-2 returns-3 returns-4 returns-5 returns-6 returns-7 returns-8 returns-9 returns-10)
