@@ -10,6 +10,7 @@ pub mod cab;
 pub mod controller;
 pub mod fault;
 pub mod link;
+pub mod lookup;
 pub mod office;
 pub mod packet;
 pub mod plain;

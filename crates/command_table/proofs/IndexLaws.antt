@@ -13,7 +13,8 @@ use Rattle.bus.specs.declared.command.CommandRow.{CommandRow}
 use Rattle.bus.specs.declared.command.Lookup.the-variants.{Found, Unknown}
 use Rattle.bus.specs.Commands.{command-rows, find-row, lookup}
 use Rattle.bus.specs.AsWritten.{table}
-use Rattle.command_table.specs.Index.{entry, one-more, number-among, paper-number, numbered, row-at, index-number, IndexAsWritten}
+use Rattle.bus.proofs.CommandTable.{table-alike}
+use Rattle.command_table.specs.Index.{entry, one-more, number-among, paper-number, numbered, row-at, index-number, IndexAsWritten, RowAsWritten}
 
 abbrev right-at : ℕ → Bool
 right-at k = eqb (index-number (k / 2)) (paper-number (k / 2))
@@ -30,11 +31,11 @@ index-as-written k h = eqb→eq _ _ (below-each 256 right-at right-everywhere k 
 abbrev ids : List CommandRow → List ℕ
 ids rows = map (λ (row : CommandRow). row .id) rows
 
-entry-getD : {A : Type 0} (other : A) (first n : ℕ) (xs : List A) → entry other first (first + n) xs ≡ getD xs n other
+entry-getD : {A : Type 0} (other : A) (start n : ℕ) (xs : List A) → entry other start (start + n) xs ≡ getD xs n other
 unfolding entry
-entry-getD other first n [] = refl
-entry-getD other first zero (x ∷ xs) = rw (eq-eqb (first + 0) first (add-zero first))
-entry-getD other first (suc n) (x ∷ xs) = rw (ne-eqb (first + suc n) first (λ e. omega arith), add-suc first n, ← (suc-add first n)) (entry-getD other (suc first) n xs)
+entry-getD other start n [] = refl
+entry-getD other start zero (x ∷ xs) = rw (eq-eqb (start + 0) start (add-zero start))
+entry-getD other start (suc n) (x ∷ xs) = rw (ne-eqb (start + suc n) start (λ e. omega arith), add-suc start n, ← (suc-add start n)) (entry-getD other (suc start) n xs)
 
 by-number : (id : ℕ) (rows : List CommandRow) → getD (numbered rows) (number-among id (ids rows)) Unknown ≡ find-row id rows
 unfolding number-among
@@ -51,3 +52,6 @@ by-number id (row ∷ rows) = by-cases (eqb id (row .id)) (number-among id (ids 
 pub lookup-by-number : (id : ℕ) → row-at (paper-number id) ≡ lookup id
 unfolding lookup table
 lookup-by-number id = rw (← (zero-add (paper-number id))) (entry-getD Unknown 0 (paper-number id) (numbered command-rows) ∙ by-number id command-rows)
+
+pub row-as-written : RowAsWritten
+row-as-written k h = rw (index-as-written k h, lookup-by-number (k / 2)) (table-alike (k / 2))

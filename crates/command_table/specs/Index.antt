@@ -8,15 +8,17 @@ use Rattle.bus.specs.declared.command.CommandRow.{CommandRow}
 use Rattle.bus.specs.declared.command.Lookup.{Lookup}
 use Rattle.bus.specs.declared.command.Lookup.the-variants.{Found, Unknown}
 use Rattle.bus.specs.Commands.{command-rows}
-use Rattle.bus.specs.AsWritten.{Row, table}
+use Rattle.bus.specs.AsWritten.{Row, table, find}
+use Rattle.bus.specs.CommandTheorems.{Alike}
 
--- the entry of a list with this number, where the first has the number first
+-- the entry of a list with the number n, where the first one's number is start
 unfoldable pub entry : {A : Type 0} → A → ℕ → ℕ → List A → A
-entry other first n [] = other
-entry other first n (x ∷ xs) = cond (eqb n first) x (entry other (suc first) n xs)
+entry other start n [] = other
+entry other start n (x ∷ xs) = cond (eqb n start) x (entry other (suc start) n xs)
 
 -- ---- rows by number, the first being 1
 
+-- the number where one more stands before it; 0 is no number
 abbrev pub one-more : ℕ → ℕ
 one-more zero = zero
 one-more (suc n) = suc (suc n)
@@ -65,6 +67,12 @@ index-word block = entry (2 ^ 64 - 1) 0 block index-words
 abbrev pub index-number : ℕ → ℕ
 index-number id = index-word (id / 8) / 2 ^ (8 * (id % 8)) % 256
 
+-- ---- document 02, Ask 5
+
 -- at each of the 256 command bytes the index has the number of the paper's row, or 0 where the paper has none
 abbrev pub IndexAsWritten : Type 0
 IndexAsWritten = (k : ℕ) → k < 256 → index-number (k / 2) ≡ paper-number (k / 2)
+
+-- and the row found says what the paper's row says, or there is none in either
+abbrev pub RowAsWritten : Type 0
+RowAsWritten = (k : ℕ) → k < 256 → Alike (k / 2) (find (k / 2) table) (row-at (index-number (k / 2)))

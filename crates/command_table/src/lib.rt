@@ -103,7 +103,7 @@ fn row_at(number: u8) -> Lookup
 
 // The numbers of the rows of the eight IDs from 8 * block on: a byte each, the first ID's lowest, 0 where an ID has no row. No ID comes to the last
 // arm; since its word differs from 0, the compiler keeps all sixteen words in one table.
-fn index_word(block: u8) -> u64
+fn index_word(block: u64) -> u64
     ensures { λ r. ⌜ r ≡ index-word block ⌝ }
 {
     match block {
@@ -130,7 +130,7 @@ fn index_word(block: u8) -> u64
 fn row_number(command: u8) -> u8
     ensures { λ r. ⌜ r ≡ paper-number (command / 2) ⌝ }
 {
-    let id = command / 2;
+    let id = (command / 2) as u64;
     ((index_word(id / 8) >> (8 * (id % 8))) % 256) as u8
 }
 

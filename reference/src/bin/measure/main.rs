@@ -1,16 +1,22 @@
 //! `measure PROGRAMS_DIR`: another implementation's `bench` and `simulate`, measured. The bus is
 //! compared with `plain`, the controller written for speed in document 01's forms; starts and a session,
-//! order by order and by pages, with the reference.
+//! order by order and by pages, with the reference; then its lookup of a command byte, which
+//! `measure lookup [CALLS]` measures alone.
 
 #![forbid(unsafe_code)]
 
 mod input;
+mod lookup;
 mod run;
 mod table;
 
+use std::ffi::OsString;
+use std::num::NonZeroU64;
 use std::path::{Path, PathBuf};
 use std::process::ExitCode;
 use std::{env, fs, io, thread};
+
+use reference::lookup::CALLS;
 
 use input::{Input, ORDERS, PAGE};
 use table::Table;
@@ -28,10 +34,16 @@ enum Failure {
     Run { path: PathBuf, error: io::Error },
 }
 
+enum Task {
+    All(PathBuf),
+    /// With so many calls of each command byte.
+    Lookup(NonZeroU64),
+}
+
 fn main() -> ExitCode {
     let arguments: Vec<_> = env::args_os().skip(1).collect();
-    let [others] = &arguments[..] else {
-        eprintln!("usage: measure PROGRAMS_DIR");
+    let Some(task) = task(&arguments) else {
+        eprintln!("usage: measure PROGRAMS_DIR | measure lookup [CALLS]");
         return ExitCode::from(2);
     };
     let ours = match env::current_exe() {
@@ -41,7 +53,11 @@ fn main() -> ExitCode {
             return ExitCode::from(2);
         }
     };
-    match measure(Path::new(others), &ours) {
+    let done = match task {
+        Task::All(others) => measure(&others, &ours),
+        Task::Lookup(calls) => lookup_alone(&ours, calls),
+    };
+    match done {
         Ok(()) => ExitCode::SUCCESS,
         Err(Failure::Differ(what)) => {
             println!("{what}");
@@ -51,6 +67,15 @@ fn main() -> ExitCode {
             eprintln!("measure: {}: {error}", path.display());
             ExitCode::from(2)
         }
+    }
+}
+
+fn task(arguments: &[OsString]) -> Option<Task> {
+    match arguments {
+        [word] if word == "lookup" => Some(Task::Lookup(CALLS)),
+        [word, calls] if word == "lookup" => calls.to_str()?.parse().ok().map(Task::Lookup),
+        [others] => Some(Task::All(others.into())),
+        _ => None,
     }
 }
 
@@ -70,8 +95,16 @@ fn measure(others: &Path, ours: &Path) -> Result<(), Failure> {
     println!();
     starts_and_sessions(&benches, &simulates)?;
     println!();
+    lookup::lookup(ours, CALLS)?;
+    println!();
     println!("All outputs were equal, byte for byte.");
     Ok(())
+}
+
+fn lookup_alone(ours: &Path, calls: NonZeroU64) -> Result<(), Failure> {
+    println!("{}", machine());
+    println!();
+    lookup::lookup(ours, calls)
 }
 
 fn program(folder: &Path, name: &str) -> Result<PathBuf, Failure> {
