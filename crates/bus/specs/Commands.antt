@@ -101,7 +101,7 @@ abbrev pub request-length : CommandRow → Access → ℕ
 request-length row Write = row .count
 request-length row Read = 0
 
--- whether a mode right keeps a command from its effect, with master so
+-- whether a mode right denies a command, by what master holds
 abbrev pub denies : ModeRight → ℕ → Bool
 denies Always master = false
 denies MasterOn master = eqb master 0

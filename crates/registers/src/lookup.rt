@@ -1,8 +1,11 @@
 // What a command byte asks for, and what its row says of that.
 use bus::CommandRow;
+use bus::ModeRight;
 use bus::Ways;
 use packet::Access;
+use settings::Settings;
 ghost use mathlib.Core.Path.{_≡_};
+ghost use Rattle.packet.specs.declared.writer.Access.the-variants.{Write};
 ghost use Rattle.bus.specs.Commands as spec;
 
 // Whether a command byte writes or reads.
@@ -15,24 +18,26 @@ pub(crate) fn access(command: u8) -> Access
     Access::Write
 }
 
-pub(crate) fn offers(row: CommandRow, access: Access) -> bool
-    ensures { λ r. ⌜ r ≡ spec.offers row access ⌝ }
+pub(crate) fn writable(row: CommandRow) -> bool
+    ensures { λ r. ⌜ r ≡ spec.offers row Write ⌝ }
 {
     let ways = row.ways;
-    match access {
-        Access::Write => match ways {
-            Ways::ReadWrite => true,
-            Ways::ReadOnly => false,
-        },
-        Access::Read => true,
+    match ways {
+        Ways::ReadWrite => true,
+        Ways::ReadOnly => false,
     }
 }
 
-pub(crate) fn request_length(row: CommandRow, access: Access) -> usize
-    ensures { λ r. ⌜ r ≡ spec.request-length row access ⌝ }
+// Whether master is off and keeps a register from its commands.
+pub(crate) fn locked(settings: Settings, row: CommandRow) -> bool
+    ensures { λ r. ⌜ r ≡ spec.locked settings row ⌝ }
 {
-    match access {
-        Access::Write => row.count as usize,
-        Access::Read => 0,
+    let right = row.right;
+    match right {
+        ModeRight::Always => false,
+        ModeRight::MasterOn => {
+            let switches = settings.switches;
+            switches.master == 0
+        }
     }
 }
