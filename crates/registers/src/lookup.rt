@@ -1,11 +1,8 @@
 // What a command byte asks for, and what its row says of that.
 use bus::CommandRow;
-use bus::ModeRight;
 use bus::Ways;
 use packet::Access;
-use settings::Settings;
 ghost use mathlib.Core.Path.{_≡_};
-ghost use Rattle.packet.specs.declared.writer.Access.the-variants.{Write};
 ghost use Rattle.bus.specs.Commands as spec;
 
 // Whether a command byte writes or reads.
@@ -18,26 +15,24 @@ pub(crate) fn access(command: u8) -> Access
     Access::Write
 }
 
-pub(crate) fn writable(row: CommandRow) -> bool
-    ensures { λ r. ⌜ r ≡ spec.offers row Write ⌝ }
+pub(crate) fn offers(row: CommandRow, access: Access) -> bool
+    ensures { λ r. ⌜ r ≡ spec.offers row access ⌝ }
 {
     let ways = row.ways;
-    match ways {
-        Ways::ReadWrite => true,
-        Ways::ReadOnly => false,
+    match access {
+        Access::Write => match ways {
+            Ways::ReadWrite => true,
+            Ways::ReadOnly => false,
+        },
+        Access::Read => true,
     }
 }
 
-// Whether master is off and keeps a register from its commands.
-pub(crate) fn locked(settings: Settings, row: CommandRow) -> bool
-    ensures { λ r. ⌜ r ≡ spec.locked settings row ⌝ }
+pub(crate) fn request_length(row: CommandRow, access: Access) -> usize
+    ensures { λ r. ⌜ r ≡ spec.request-length row access ⌝ }
 {
-    let right = row.right;
-    match right {
-        ModeRight::Always => false,
-        ModeRight::MasterOn => {
-            let switches = settings.switches;
-            switches.master == 0
-        }
+    match access {
+        Access::Write => row.count as usize,
+        Access::Read => 0,
     }
 }

@@ -1,7 +1,7 @@
 use borrow.Author.Needs.{needs}
 use Rattle.base.proofs.Tests.{tests}
-use Rattle.registers.proofs.lookup.locked.Statement.{statement}
-use Rattle.registers.proofs.lookup.locked.Tie as tie
+use Rattle.registers.proofs.command.locked.Statement.{statement}
+use Rattle.registers.proofs.command.locked.Tie as tie
 
 enum-told : tie.Need-enum-told
 enum-told c = search needs
