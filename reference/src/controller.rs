@@ -115,7 +115,7 @@ impl Controller {
         let register = Register::of_id(command / 2)
             .filter(|register| register.has(way))
             .ok_or(Fault::InvalidCommand)?;
-        if !self.settings.master && register != Register::Master {
+        if !self.settings.available(register, way) {
             return Err(Fault::NotAvailable);
         }
         let expected = match way {

@@ -2,10 +2,11 @@
 
 use crate::controller::Controller;
 use crate::fault::{self, Fault};
-use crate::settings::Settings;
+use crate::settings::{BLOCK, Settings};
 
-/// The longest frame (WELCOME), which is the output box and office ask to be lent.
-pub const LONGEST_FRAME: usize = 37;
+/// The longest frame (WELCOME: a session and a settings block), which is the output box and office ask to
+/// be lent.
+pub const LONGEST_FRAME: usize = HEAD + 4 + HEAD + BLOCK;
 pub const MOST_ORDER_DATA: usize = 16;
 /// The most orders of a batch, and the most frames of a run.
 pub const MOST_AT_ONCE: usize = 8;

@@ -15,37 +15,54 @@ pub const ROUND: u64 = 1000;
 pub const STREAM: usize = 65_536;
 pub const STREAM_ROUNDS: usize = 100;
 
-/// Document 01's registers in the order of their IDs: ID, name, whether it can be written, data count,
-/// whether its commands are available while master is off. All can be read.
-const ROWS: [(u8, &str, bool, u8, bool); 9] = [
-    (0x00, "backlight", true, 2, false),
-    (0x01, "master", true, 1, true),
-    (0x02, "park", true, 1, false),
-    (0x25, "splash mode", true, 1, false),
-    (0x26, "drive strength", true, 1, false),
-    (0x27, "heater", true, 3, false),
-    (0x28, "bezel", true, 6, false),
-    (0x33, "status", false, 4, false),
-    (0x53, "test pixels", true, 8, false),
+/// The registers of documents 01 and 02 in the order of their IDs: ID, name, whether it can be written,
+/// data count, when its commands are available. All can be read.
+const ROWS: [(u8, &str, bool, u8, Right); 15] = [
+    (0x00, "backlight", true, 2, Right::MasterOn),
+    (0x01, "master", true, 1, Right::Always),
+    (0x02, "park", true, 1, Right::MasterOn),
+    (0x25, "splash mode", true, 1, Right::MasterOn),
+    (0x26, "drive strength", true, 1, Right::MasterOn),
+    (0x27, "heater", true, 3, Right::MasterOn),
+    (0x28, "bezel", true, 6, Right::MasterOn),
+    (0x33, "status", false, 4, Right::MasterOn),
+    (0x53, "test pixels", true, 8, Right::MasterOn),
+    (0x64, "calibration mode", true, 1, Right::MasterOn),
+    (0x65, "red level", true, 2, Right::Calibration),
+    (0x66, "green level", true, 2, Right::Calibration),
+    (0x67, "blue level", true, 2, Right::Calibration),
+    (0x68, "current limit", true, 2, Right::Calibration),
+    (0x69, "sensor gain", true, 1, Right::Calibration),
 ];
+
+/// When a register's commands are available.
+#[derive(Clone, Copy)]
+enum Right {
+    Always,
+    MasterOn,
+    /// While master is on, and writes in calibration mode only.
+    Calibration,
+}
 
 const WRITTEN: u32 = 0x1000;
 const WITH_MASTER_OFF: u32 = 0x2000;
+const IN_CALIBRATION_ONLY: u32 = 0x4000;
+/// The lowest bit that no row sets.
+const ABOVE: u32 = 0x8000;
 
 /// The row of the command byte's ID in one number, or 0 if it has none.
 pub fn expected(command: u8) -> u32 {
     let Some(number) = ROWS.iter().position(|row| row.0 == command / 2) else {
         return 0;
     };
-    let (_, _, written, count, with_master_off) = ROWS[number];
-    let mut answer = u32::from(count) + 0x100 * number as u32;
-    if written {
-        answer += WRITTEN;
-    }
-    if with_master_off {
-        answer += WITH_MASTER_OFF;
-    }
-    answer
+    let (_, _, written, count, right) = ROWS[number];
+    let ways = if written { WRITTEN } else { 0 };
+    let right = match right {
+        Right::Always => WITH_MASTER_OFF,
+        Right::MasterOn => 0,
+        Right::Calibration => IN_CALIBRATION_ONLY,
+    };
+    u32::from(count) + 0x100 * number as u32 + ways + right
 }
 
 /// The command bytes whose ID has a row, writes of what cannot be written included.
@@ -75,11 +92,16 @@ pub fn in_words(answer: u32) -> String {
         0 => "not available while master is off",
         _ => "available while master is off",
     };
-    let rest = match answer >> 14 {
+    let calibration = match answer & IN_CALIBRATION_ONLY {
         0 => "",
-        _ => ", and bits above these",
+        _ => ", written in calibration mode only",
     };
-    format!("{register}, {ways}, {count}, {mode}{rest}")
+    let rest = if answer < ABOVE {
+        ""
+    } else {
+        ", and bits above these"
+    };
+    format!("{register}, {ways}, {count}, {mode}{calibration}{rest}")
 }
 
 /// Both answers and the expected one, if they are not all the same.

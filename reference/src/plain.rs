@@ -61,6 +61,12 @@ struct Settings {
     bezel: [i32; 2],
     /// Start x, start y, end x, end y.
     pixels: [u16; 4],
+    calibration: u8,
+    red: u16,
+    green: u16,
+    blue: u16,
+    current_limit: u16,
+    gain: u8,
     status: [u8; 4],
 }
 
@@ -99,6 +105,12 @@ impl Controller {
                 heater_duty: 0,
                 bezel: [0; 2],
                 pixels: [0; 4],
+                calibration: 0,
+                red: 0,
+                green: 0,
+                blue: 0,
+                current_limit: 0,
+                gain: 0,
                 status: [0; 4],
             },
         }
@@ -188,16 +200,26 @@ impl Controller {
 
     /// Runs the packet of that data length, whose sum was right. Kept out of the loop, where it would take registers.
     #[inline(never)]
+    #[expect(
+        clippy::manual_range_patterns,
+        reason = "IDs one by one are found by one jump, a range by a comparison more"
+    )]
     fn perform(&mut self, length: u8) {
         let id = self.command / 2;
         let read = self.command % 2 == 1;
         let size = match id {
-            0x01 | 0x02 | 0x25 | 0x26 => 1,
+            0x01 | 0x02 | 0x25 | 0x26 | 0x64 => 1,
             0x00 => 2,
             0x27 => 3,
             0x33 if read => 4,
             0x28 => 6,
             0x53 => 8,
+            // As with master off.
+            0x65 | 0x66 | 0x67 | 0x68 | 0x69 if !read && self.settings.calibration == 0 => {
+                return self.fail(0x04, NOT_AVAILABLE);
+            }
+            0x65 | 0x66 | 0x67 | 0x68 => 2,
+            0x69 => 1,
             _ => return self.fail(0x03, INVALID_COMMAND),
         };
         if self.settings.master == 0 && id != 0x01 {
@@ -232,6 +254,12 @@ impl Controller {
                 self.reply.tell([a, b, c, d, e, f]);
             }
             0x33 => self.reply.tell(mem::take(&mut held.status)),
+            0x64 => self.reply.tell([held.calibration]),
+            0x65 => self.reply.tell(held.red.to_le_bytes()),
+            0x66 => self.reply.tell(held.green.to_le_bytes()),
+            0x67 => self.reply.tell(held.blue.to_le_bytes()),
+            0x68 => self.reply.tell(held.current_limit.to_le_bytes()),
+            0x69 => self.reply.tell([held.gain]),
             _ => {
                 let [[a, b], [c, d], [e, f], [g, h]] = held.pixels.map(u16::to_le_bytes);
                 self.reply.tell([a, b, c, d, e, f, g, h]);
@@ -284,6 +312,12 @@ impl Settings {
             }
             0x28 if c <= 1 && f <= 1 => self.bezel = [offset(a, b, c), offset(d, e, f)],
             0x53 => self.pixels = [word(a, b), word(c, d), word(e, f), word(g, h)],
+            0x64 if a <= 1 => self.calibration = a,
+            0x65 => self.red = word(a, b),
+            0x66 => self.green = word(a, b),
+            0x67 => self.blue = word(a, b),
+            0x68 => self.current_limit = word(a, b),
+            0x69 if a <= 3 => self.gain = a,
             _ => return false,
         }
         true

@@ -13,6 +13,7 @@ use std::array;
 
 use crate::cab::{Cab, Refused};
 use crate::controller::Controller;
+use crate::link::LONGEST_FRAME;
 use crate::office::Office;
 use crate::packet::{LONGEST_PACKET, read_reply, write_packet};
 use crate::refusal::Refusal;
@@ -76,7 +77,7 @@ impl Simulation {
             from_cab: Log::default(),
             from_offices: Log::default(),
             highest_opened: 0,
-            room: 37,
+            room: LONGEST_FRAME,
             lines: 0,
         }
     }

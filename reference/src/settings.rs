@@ -1,8 +1,46 @@
 //! The values a controller holds, its registers, and the settings block of WELCOME.
 
+use std::ops::Range;
+
 use crate::packet::Way;
 
-pub const BLOCK: usize = 27;
+/// The length of a settings block.
+pub const BLOCK: usize = 37;
+
+/// The registers of a settings block, in its order.
+pub const IN_BLOCK: [Register; 15] = [
+    Register::Backlight,
+    Register::Master,
+    Register::Park,
+    Register::Splash,
+    Register::Strength,
+    Register::Heater,
+    Register::Bezel,
+    Register::Pixels,
+    Register::Calibration,
+    Register::Red,
+    Register::Green,
+    Register::Blue,
+    Register::CurrentLimit,
+    Register::Gain,
+    Register::Status,
+];
+
+/// Each register's place in a settings block.
+pub fn places() -> impl Iterator<Item = (Register, Range<usize>)> {
+    let mut end = 0;
+    IN_BLOCK.into_iter().map(move |register| {
+        let start = end;
+        end += register.size();
+        (register, start..end)
+    })
+}
+
+/// Where a register stands in a settings block.
+pub fn place(register: Register) -> Range<usize> {
+    let found = places().find(|(other, _)| *other == register);
+    found.expect("all registers stand in a settings block").1
+}
 
 #[derive(Clone, Copy, Debug, PartialEq, Eq)]
 pub enum Register {
@@ -15,6 +53,12 @@ pub enum Register {
     Bezel,
     Status,
     Pixels,
+    Calibration,
+    Red,
+    Green,
+    Blue,
+    CurrentLimit,
+    Gain,
 }
 
 impl Register {
@@ -29,6 +73,12 @@ impl Register {
             0x28 => Register::Bezel,
             0x33 => Register::Status,
             0x53 => Register::Pixels,
+            0x64 => Register::Calibration,
+            0x65 => Register::Red,
+            0x66 => Register::Green,
+            0x67 => Register::Blue,
+            0x68 => Register::CurrentLimit,
+            0x69 => Register::Gain,
             _ => return None,
         })
     }
@@ -37,11 +87,21 @@ impl Register {
         way == Way::Read || self != Register::Status
     }
 
+    /// Whether it is written in calibration mode only. All registers are read in either mode.
+    pub fn is_trimmed(self) -> bool {
+        matches!(
+            self,
+            Register::Red | Register::Green | Register::Blue | Register::CurrentLimit | Register::Gain
+        )
+    }
+
     /// Data bytes of the write, and of the read's reply.
     pub fn size(self) -> usize {
         match self {
             Register::Master | Register::Park | Register::Splash | Register::Strength => 1,
+            Register::Calibration | Register::Gain => 1,
             Register::Backlight => 2,
+            Register::Red | Register::Green | Register::Blue | Register::CurrentLimit => 2,
             Register::Heater => 3,
             Register::Status => 4,
             Register::Bezel => 6,
@@ -96,6 +156,13 @@ pub struct Settings {
     pub bezel: [i32; 2],
     /// Start x, start y, end x, end y.
     pub pixels: [u16; 4],
+    /// In calibration mode, else in normal mode.
+    pub calibration: bool,
+    pub red: u16,
+    pub green: u16,
+    pub blue: u16,
+    pub current_limit: u16,
+    pub gain: u8,
     pub status: [u8; 4],
 }
 
@@ -110,8 +177,22 @@ impl Settings {
             heater: Heater { khz: 0, duty: 0 },
             bezel: [0; 2],
             pixels: [0; 4],
+            calibration: false,
+            red: 0,
+            green: 0,
+            blue: 0,
+            current_limit: 0,
+            gain: 0,
             status: [0; 4],
         }
+    }
+
+    /// Whether a command is available: any but master's while master is on, and of those the writes that
+    /// trim in calibration mode alone.
+    pub fn available(&self, register: Register, way: Way) -> bool {
+        let with_master = self.master || register == Register::Master;
+        let in_mode = self.calibration || way == Way::Read || !register.is_trimmed();
+        with_master && in_mode
     }
 
     pub fn flag(&mut self, flag: Flag) {
@@ -137,6 +218,12 @@ impl Settings {
             (Register::Pixels, &[a, b, c, d, e, f, g, h]) => {
                 self.pixels = [word(a, b), word(c, d), word(e, f), word(g, h)];
             }
+            (Register::Calibration, &[value @ 0..=1]) => self.calibration = value == 1,
+            (Register::Red, &[low, high]) => self.red = word(low, high),
+            (Register::Green, &[low, high]) => self.green = word(low, high),
+            (Register::Blue, &[low, high]) => self.blue = word(low, high),
+            (Register::CurrentLimit, &[low, high]) => self.current_limit = word(low, high),
+            (Register::Gain, &[value @ 0..=3]) => self.gain = value,
             _ => return false,
         }
         true
@@ -156,22 +243,22 @@ impl Settings {
             Register::Bezel => self.bezel.into_iter().flat_map(offset_bytes).collect(),
             Register::Status => self.status.to_vec(),
             Register::Pixels => self.pixels.into_iter().flat_map(u16::to_le_bytes).collect(),
+            Register::Calibration => vec![u8::from(self.calibration)],
+            Register::Red => self.red.to_le_bytes().to_vec(),
+            Register::Green => self.green.to_le_bytes().to_vec(),
+            Register::Blue => self.blue.to_le_bytes().to_vec(),
+            Register::CurrentLimit => self.current_limit.to_le_bytes().to_vec(),
+            Register::Gain => vec![self.gain],
         }
     }
 
     pub fn to_block(&self) -> Vec<u8> {
-        [
-            self.read(Register::Backlight),
-            self.read(Register::Master),
-            vec![u8::from(self.parked)],
-            self.read(Register::Splash),
-            self.read(Register::Strength),
-            self.read(Register::Heater),
-            self.read(Register::Bezel),
-            self.read(Register::Pixels),
-            self.read(Register::Status),
-        ]
-        .concat()
+        let part = |register| match register {
+            // As it is held, not as it is read.
+            Register::Park => vec![u8::from(self.parked)],
+            _ => self.read(register),
+        };
+        IN_BLOCK.into_iter().flat_map(part).collect()
     }
 
     /// The settings of a block that a controller could hold.
@@ -180,17 +267,16 @@ impl Settings {
             return None;
         }
         let mut settings = Settings::fresh();
-        let accepted = settings.write(Register::Backlight, &block[0..2])
-            && settings.write(Register::Master, &block[2..3])
-            && settings.write(Register::Park, &block[3..4])
-            && settings.write(Register::Splash, &block[4..5])
-            && settings.write(Register::Strength, &block[5..6])
-            && settings.write(Register::Heater, &block[6..9])
-            && settings.write(Register::Bezel, &block[9..15])
-            && settings.write(Register::Pixels, &block[15..23]);
-        settings.status.copy_from_slice(&block[23..27]);
+        for (register, place) in places() {
+            let part = &block[place];
+            if register == Register::Status {
+                settings.status.copy_from_slice(part);
+            } else if !settings.write(register, part) {
+                return None;
+            }
+        }
         // A bezel offset of minus 0 comes out changed here.
-        (accepted && settings.to_block() == block).then_some(settings)
+        (settings.to_block() == block).then_some(settings)
     }
 }
 

@@ -3,6 +3,7 @@
 use crate::packet::{ESCAPE, START, sum};
 use crate::rng::Rng;
 
+/// ID and data count of what calibration is not about.
 const REGISTERS: [(u8, usize); 9] = [
     (0x00, 2),
     (0x01, 1),
@@ -15,8 +16,22 @@ const REGISTERS: [(u8, usize); 9] = [
     (0x53, 8),
 ];
 
+/// The same of what calibration is about: the mode first, then what is written in it alone.
+const CALIBRATION: [(u8, usize); 6] = [(0x64, 1), (0x65, 2), (0x66, 2), (0x67, 2), (0x68, 2), (0x69, 1)];
+
+/// Values above all that a switch takes.
+const NO_SWITCH: [u8; 5] = [2, 3, 0x5A, 0xA5, 0xFF];
+
 fn register(rng: &mut Rng) -> (u8, usize) {
-    rng.pick(&REGISTERS)
+    if rng.chance(80) {
+        rng.pick(&REGISTERS)
+    } else {
+        rng.pick(&CALIBRATION)
+    }
+}
+
+fn all_registers() -> impl Iterator<Item = (u8, usize)> {
+    REGISTERS.into_iter().chain(CALIBRATION)
 }
 
 /// Data of the right length for a write, mostly accepted.
@@ -36,6 +51,8 @@ fn write_data(rng: &mut Rng, id: u8, size: usize) -> Vec<u8> {
                 }
             }
         }
+        0x64 => data[0] = u8::from(rng.chance(55)),
+        0x69 => data[0] = rng.below(4) as u8,
         _ => {}
     }
     data
@@ -47,7 +64,7 @@ pub fn bad_signs(rng: &mut Rng) -> Vec<u8> {
     let mut data = write_data(rng, 0x28, 6);
     for place in rng.pick(&[&[2][..], &[5], &[2, 5]]) {
         data[*place] = match rng.below(2) {
-            0 => rng.pick(&[2, 3, 0x5A, 0xA5, 0xFF]),
+            0 => rng.pick(&NO_SWITCH),
             _ => rng.between(2, 255) as u8,
         };
     }
@@ -59,17 +76,55 @@ pub fn bad_signs(rng: &mut Rng) -> Vec<u8> {
     data
 }
 
+fn bad_mode(rng: &mut Rng) -> (u8, Vec<u8>) {
+    (0xC8, vec![rng.pick(&NO_SWITCH)])
+}
+
+fn bad_gain(rng: &mut Rng) -> (u8, Vec<u8>) {
+    (0xD2, vec![rng.pick(&[4, 4, 5, 7, 0x5A, 0xA5, 0xFF])])
+}
+
 fn refused_value(rng: &mut Rng) -> (u8, Vec<u8>) {
-    match rng.below(10) {
-        0 => (0x02, vec![rng.pick(&[2, 3, 0x5A, 0xA5, 0xFF])]),
-        1 => (0x04, vec![rng.pick(&[2, 3, 0x5A, 0xA5, 0xFF])]),
-        2 => (0x4A, vec![rng.pick(&[2, 3, 0x5A, 0xA5, 0xFF])]),
+    match rng.below(12) {
+        0 => (0x02, vec![rng.pick(&NO_SWITCH)]),
+        1 => (0x04, vec![rng.pick(&NO_SWITCH)]),
+        2 => (0x4A, vec![rng.pick(&NO_SWITCH)]),
         3 => (0x4C, vec![rng.pick(&[3, 4, 0x5A, 0xA5, 0xFF])]),
         4 => {
             let duty = rng.pick(&[101, 102, 0xA5, 0xFF]);
             (0x4E, vec![rng.byte(), rng.byte(), duty])
         }
+        5 => bad_mode(rng),
+        6 => bad_gain(rng),
         _ => (0x50, bad_signs(rng)),
+    }
+}
+
+/// A command of one who trims the lamps, to a controller that is in calibration mode or not; some are
+/// refused, by their length, their data or the mode.
+pub fn trimming(rng: &mut Rng, in_mode: bool) -> (u8, Vec<u8>) {
+    // Into the mode, and seldom out of it.
+    if rng.chance(if in_mode { 8 } else { 40 }) {
+        let on = if in_mode { rng.chance(20) } else { rng.chance(90) };
+        return (0xC8, vec![u8::from(on)]);
+    }
+    match rng.weighted(&[50, 24, 8, 6, 8, 4]) {
+        0 => {
+            let (id, size) = rng.pick(&CALIBRATION[1..]);
+            (2 * id, write_data(rng, id, size))
+        }
+        1 => (2 * rng.pick(&CALIBRATION).0 + 1, Vec::new()),
+        2 => bad_gain(rng),
+        3 => bad_mode(rng),
+        4 => {
+            let (id, size) = rng.pick(&CALIBRATION);
+            let length = rng.pick(&[0, size - 1, size + 1, size + 1, size + 2, 16]);
+            (2 * id, rng.bytes(length))
+        }
+        _ => {
+            let length = rng.pick(&[1, 2]);
+            (2 * rng.pick(&CALIBRATION).0 + 1, rng.bytes(length))
+        }
     }
 }
 
@@ -90,7 +145,8 @@ pub fn command(rng: &mut Rng, most: usize) -> (u8, Vec<u8>) {
         }
         5 => {
             let command = rng.pick(&[
-                0x06, 0x07, 0x5A, 0x5B, 0xA4, 0xA5, 0x4B, 0x52, 0x64, 0xA8, 0xFE, 0xFF,
+                0x06, 0x07, 0x5A, 0x5B, 0xA4, 0xA5, 0x4B, 0x52, 0x64, 0xA8, 0xC6, 0xC7, 0xD4, 0xD5, 0xFE,
+                0xFF,
             ]);
             let length = rng.pick(&[0, 1, 2]);
             (command, rng.bytes(length))
@@ -105,7 +161,8 @@ pub fn command(rng: &mut Rng, most: usize) -> (u8, Vec<u8>) {
         }
         _ => {
             let length = rng.pick(&[15, 16, 16, most]);
-            (rng.pick(&[0x00, 0x02, 0x50, 0xA6, 0x67]), rng.bytes(length))
+            let command = rng.pick(&[0x00, 0x02, 0x50, 0xA6, 0x67, 0xC8, 0xCC, 0xD2]);
+            (command, rng.bytes(length))
         }
     }
 }
@@ -139,11 +196,42 @@ fn dummies(rng: &mut Rng, sent: &mut Vec<u8>) {
     }
 }
 
+/// A packet as the writer makes it, and the dummies for its whole reply.
+fn request(rng: &mut Rng, sent: &mut Vec<u8>, (command, data): (u8, &[u8])) {
+    sent.push(START);
+    sent.extend(escaped(rng, &plain_packet(command, data), 0));
+    let size = all_registers().find(|(id, _)| *id == command / 2);
+    let reply = size.map_or(1, |(_, size)| size + 3);
+    sent.extend(vec![0x00; reply]);
+}
+
+/// The lamps are trimmed, in calibration mode or not; master may be off meanwhile. All is read then.
+fn trim(rng: &mut Rng, sent: &mut Vec<u8>) {
+    let mut in_mode = rng.chance(30);
+    for _ in 0..rng.between(2, 8) {
+        let (command, data) = trimming(rng, in_mode);
+        if let (0xC8, [mode @ 0..=1]) = (command, &data[..]) {
+            in_mode = *mode == 1;
+        }
+        request(rng, sent, (command, &data));
+        if rng.chance(10) {
+            let switch = u8::from(rng.chance(60));
+            request(rng, sent, (0x02, &[switch]));
+        }
+    }
+    if rng.chance(60) {
+        request(rng, sent, (0x02, &[1]));
+    }
+    for (id, _) in CALIBRATION {
+        request(rng, sent, (2 * id + 1, &[]));
+    }
+}
+
 fn episode(rng: &mut Rng, sent: &mut Vec<u8>) {
     let needless = rng.pick(&[0, 0, 0, 10, 50]);
     let (byte, data) = command(rng, 17);
     let plain = plain_packet(byte, &data);
-    match rng.weighted(&[40, 14, 8, 8, 8, 4, 6, 6, 3, 3]) {
+    match rng.weighted(&[40, 14, 8, 8, 8, 4, 6, 6, 3, 3, 10]) {
         0 => {
             sent.push(START);
             sent.extend(escaped(rng, &plain, needless));
@@ -193,13 +281,12 @@ fn episode(rng: &mut Rng, sent: &mut Vec<u8>) {
             sent.extend(escaped(rng, &plain_packet(byte, &data), needless));
             dummies(rng, sent);
         }
-        _ => {
-            for (id, size) in REGISTERS {
-                let command = 2 * id + 1;
-                sent.extend([START, command, 0x00, command]);
-                sent.extend(vec![0x00; size + 3]);
+        9 => {
+            for (id, _) in all_registers() {
+                request(rng, sent, (2 * id + 1, &[]));
             }
         }
+        _ => trim(rng, sent),
     }
 }
 

@@ -84,8 +84,8 @@ fn a_batch_is_issued_as_a_whole_or_not_at_all() {
             (&batch(&["raise 1"; 8]), "refused 8"),
             (&batch(&["raise 1"; 9]), "refused 2"),
             (
-                "issue-all raise 1000 / lower 1 into 50",
-                "refused 1, 50 untouched",
+                "issue-all raise 1000 / lower 1 into 60",
+                "refused 1, 60 untouched",
             ),
             ("to-box 3", "no such frame"),
             ("resend 2", "refused 13"),
@@ -118,7 +118,7 @@ fn a_batch_of_none_is_issued_anywhere() {
     ];
     run(&mut simulation, &["room 0"]);
     expect(&mut simulation, &none);
-    run(&mut simulation, &["room 37", "open 3"]);
+    run(&mut simulation, &["room 47", "open 3"]);
     expect(&mut simulation, &none);
     run(&mut simulation, &["to-box 1", "to-office 1"]);
     expect(&mut simulation, &none);
@@ -132,8 +132,8 @@ fn each_order_has_the_output_that_the_earlier_ones_left() {
     for count in 1..=8 {
         let line = batch(&vec!["raise 1"; count]);
         let frames: Vec<String> = (1..=count as u16).map(raise_1).collect();
-        let least = 14 * (count - 1) + 37;
-        let enough = format!("ok {}, 23 untouched", frames.join(" / "));
+        let least = 14 * (count - 1) + 47;
+        let enough = format!("ok {}, 33 untouched", frames.join(" / "));
         let short = format!("refused 1, {} untouched", least - 1);
         expect(
             &mut open(),
@@ -144,7 +144,7 @@ fn each_order_has_the_output_that_the_earlier_ones_left() {
             ],
         );
         let mut simulation = open();
-        let line = [&line[..], &enough.replace(", 23 untouched", "")];
+        let line = [&line[..], &enough.replace(", 33 untouched", "")];
         expect(
             &mut simulation,
             &[
@@ -155,23 +155,23 @@ fn each_order_has_the_output_that_the_earlier_ones_left() {
             ],
         );
     }
-    assert_eq!(14 * 7 + 37, 135);
+    assert_eq!(14 * 7 + 47, 145);
     // ORDERs of 29, 13 and 14 bytes.
     let line = batch(&[&command(16), "command 01", "raise 1"]);
     for (room, refused) in [
-        (36, true),
-        (37, true),
-        (65, true),
-        (66, true),
-        (78, true),
-        (79, false),
+        (46, true),
+        (47, true),
+        (75, true),
+        (76, true),
+        (88, true),
+        (89, false),
     ] {
         let told = answer(&mut open(), &format!("{line} into {room}"));
         let expected = if refused {
             format!("refused 1, {room} untouched")
         } else {
             format!(
-                "ok 12 06 00 03 00 00 00 01 00 21 11 00{} / 12 06 00 03 00 00 00 02 00 21 01 00 01 / {}, 23 untouched",
+                "ok 12 06 00 03 00 00 00 01 00 21 11 00{} / 12 06 00 03 00 00 00 02 00 21 01 00 01 / {}, 33 untouched",
                 " 00".repeat(17),
                 raise_1(3)
             )
@@ -204,22 +204,22 @@ fn the_first_order_that_fails_gives_the_refusal() {
         &mut simulation,
         &[
             // In the first order and in the second 1 goes before 2; the first order's 2 before the second one's 1.
-            (&format!("{} into 36", batch(&[&long])), "refused 1, 36 untouched"),
+            (&format!("{} into 46", batch(&[&long])), "refused 1, 46 untouched"),
             (
-                &format!("{} into 50", batch(&["raise 1", &long])),
-                "refused 1, 50 untouched",
+                &format!("{} into 60", batch(&["raise 1", &long])),
+                "refused 1, 60 untouched",
             ),
             (
-                &format!("{} into 51", batch(&["raise 1", &long])),
-                "refused 2, 51 untouched",
+                &format!("{} into 61", batch(&["raise 1", &long])),
+                "refused 2, 61 untouched",
             ),
             (
-                &format!("{} into 51", batch(&["raise 1", &long, "raise 1"])),
-                "refused 2, 51 untouched",
+                &format!("{} into 61", batch(&["raise 1", &long, "raise 1"])),
+                "refused 2, 61 untouched",
             ),
             (
-                &format!("{} into 51", batch(&["raise 1", "raise 1", &long])),
-                "refused 1, 51 untouched",
+                &format!("{} into 61", batch(&["raise 1", "raise 1", &long])),
+                "refused 1, 61 untouched",
             ),
         ],
     );
@@ -235,12 +235,12 @@ fn the_first_order_that_fails_gives_the_refusal() {
                 "refused 8",
             ),
             (
-                &format!("{} into 78", batch(&["raise 1"; 4])),
-                "refused 1, 78 untouched",
+                &format!("{} into 88", batch(&["raise 1"; 4])),
+                "refused 1, 88 untouched",
             ),
             (
-                &format!("{} into 79", batch(&["raise 1"; 4])),
-                "refused 8, 79 untouched",
+                &format!("{} into 89", batch(&["raise 1"; 4])),
+                "refused 8, 89 untouched",
             ),
             ("to-box-all 2 3", &format!("{} / {}", ack(1), ack(2))),
             ("to-office 2", "ok"),
@@ -301,7 +301,7 @@ fn a_batch_over_the_last_number() {
                 "ok 12 06 00 03 00 00 00 FF FF 22 02 00 00 00",
             ),
             ("issue-all raise 0", "refused 9"),
-            ("issue-all raise 0 into 36", "refused 1, 36 untouched"),
+            ("issue-all raise 0 into 46", "refused 1, 46 untouched"),
             (&batch(&[&long]), "refused 2"),
             ("issue-all", "ok"),
         ],
@@ -358,7 +358,7 @@ fn a_run_of_more_than_8_or_of_other_lengths() {
         ("box-cut 1", "refused 2"),
         ("box-cut 1 /", "refused 2"),
         // 2 goes before 1.
-        ("box-cut 7 / 10 04 00 09 00 00 into 36", "refused 2, 36 untouched"),
+        ("box-cut 7 / 10 04 00 09 00 00 into 46", "refused 2, 46 untouched"),
         // Sums that come out right modulo 2^64, and lengths that do modulo 2^32 and 2^16.
         ("box-cut 9223372036854775808 9223372036854775808", "refused 2"),
         (
@@ -406,14 +406,14 @@ fn a_run_of_none() {
 }
 
 #[test]
-fn a_run_needs_37_bytes_a_frame() {
+fn a_run_needs_47_bytes_a_frame() {
     for count in 1..=8 {
         let slashes = " /".repeat(count - 1);
         let line = match count {
             1 => "box-cut 0".to_string(),
             _ => format!("box-all{slashes}"),
         };
-        let least = 37 * count;
+        let least = 47 * count;
         let told = vec![CUT; count].join(" / ");
         let mut simulation = Simulation::new();
         expect(
@@ -427,7 +427,7 @@ fn a_run_needs_37_bytes_a_frame() {
                 // Eight bytes a REFUSE.
                 (
                     &format!("{line} into {least}"),
-                    &format!("{told}, {} untouched", 29 * count),
+                    &format!("{told}, {} untouched", 39 * count),
                 ),
                 (&format!("room {}", least - 1), "ok"),
                 (&line, "refused 1"),
@@ -443,11 +443,11 @@ fn a_run_needs_37_bytes_a_frame() {
 #[test]
 fn each_frame_of_a_run_is_judged_by_itself() {
     let mut simulation = Simulation::new();
-    run(&mut simulation, &["room 296"]);
+    run(&mut simulation, &["room 376"]);
     let [one, two, three, five] = [1, 2, 3, 5].map(raise_1);
     let opening = "10 04 00 03 00 00 00";
-    let welcome = "ok 11 04 00 03 00 00 00 20 1B 00 00 00 01 00 00 00 00 00 00 00 00 01 00 00 01 \
-                   00 00 00 00 00 00 00 00 00 00 00 00";
+    let welcome = "ok 11 04 00 03 00 00 00 20 25 00 00 00 01 00 00 00 00 00 00 00 00 01 00 00 01 \
+                   00 00 00 00 00 00 00 00 00 00 00 00 00 00 00 00 00 00 00 00 00 00";
     let told = [
         "refused 5 14 05 00 03 00 00 00 05",
         welcome,
@@ -481,16 +481,16 @@ fn each_frame_of_a_run_is_judged_by_itself() {
         "refused 19 at 0 14 05 00 00 00 00 00 13",
         "refused 6 14 05 00 02 00 00 00 06",
         "refused 18 at 7 14 05 00 00 00 00 00 12",
-        "ok 11 04 00 07 00 00 00 20 1B 00 03 00 01 00 00 00 00 00 00 00 00 01 00 00 01 \
-         00 00 00 00 00 00 00 00 00 00 00 00",
+        "ok 11 04 00 07 00 00 00 20 25 00 03 00 01 00 00 00 00 00 00 00 00 01 00 00 01 \
+         00 00 00 00 00 00 00 00 00 00 00 00 00 00 00 00 00 00 00 00 00 00",
         "refused 6 14 05 00 03 00 00 00 06",
     ];
-    // 9 + 8 + 8 + 8 + 8 + 8 + 37 + 8 of 300 bytes.
+    // 9 + 8 + 8 + 8 + 8 + 8 + 47 + 8 of 400 bytes.
     expect(
         &mut simulation,
         &[(
-            &format!("box-all {} into 300", line.join(" / ")),
-            &format!("{}, 206 untouched", told.join(" / ")),
+            &format!("box-all {} into 400", line.join(" / ")),
+            &format!("{}, 296 untouched", told.join(" / ")),
         )],
     );
     let shown = answer(&mut simulation, "show");
@@ -524,9 +524,9 @@ fn frames_cut_anyhow() {
             (
                 &format!("box-cut 7 13 15 / {frames}"),
                 &format!(
-                    "ok 11 04 00 03 00 00 00 20 1B 00 00 00 01 00 00 00 00 00 00 00 00 01 00 00 01{} / \
+                    "ok 11 04 00 03 00 00 00 20 25 00 00 00 01 00 00 00 00 00 00 00 00 01 00 00 01{} / \
                      refused 14 at 9 14 05 00 00 00 00 00 0E / {CUT}",
-                    " 00".repeat(12)
+                    " 00".repeat(22)
                 ),
             ),
             (
@@ -536,10 +536,10 @@ fn frames_cut_anyhow() {
                 ),
             ),
             (
-                &format!("box-cut 7 14 0 14 / {frames} into 148"),
+                &format!("box-cut 7 14 0 14 / {frames} into 188"),
                 &format!(
-                    "ok 11 04 00 03 00 00 00 20 1B 00 00 00 01 00 00 00 00 00 00 00 00 01 00 00 01{} / {} / {CUT} / {}, 85 untouched",
-                    " 00".repeat(12),
+                    "ok 11 04 00 03 00 00 00 20 25 00 00 00 01 00 00 00 00 00 00 00 00 01 00 00 01{} / {} / {CUT} / {}, 115 untouched",
+                    " 00".repeat(22),
                     ack(1),
                     ack(2)
                 ),
@@ -564,10 +564,10 @@ fn written_frames_in_a_run() {
             ("to-office 3", "ok"),
             ("pieces-office 2 128", "took 11 frame 14 05 00 03 00 00 00 07: ok"),
             ("to-office 8", "no such frame"),
-            ("to-box-all 4 5 6 7 8 9 into 221", "refused 1, 221 untouched"),
+            ("to-box-all 4 5 6 7 8 9 into 281", "refused 1, 281 untouched"),
             (
-                "to-box-all 4 5 6 7 8 9 into 222",
-                &format!("{}, 168 untouched", [3, 4, 5, 6, 7, 8].map(ack).join(" / ")),
+                "to-box-all 4 5 6 7 8 9 into 282",
+                &format!("{}, 228 untouched", [3, 4, 5, 6, 7, 8].map(ack).join(" / ")),
             ),
             ("to-office 13", "ok"),
         ],
@@ -606,7 +606,7 @@ fn items_are_judged_from_left_to_right() {
         ("issue-all into", "not a number"),
         ("issue-all raise 1 into x", "not a number"),
         ("issue-all raise 1 into 517", "number out of range"),
-        ("issue-all raise 1 into 37 1", "too many words"),
+        ("issue-all raise 1 into 47 1", "too many words"),
         ("issue-all raise x into 517", "not a number"),
         ("issue-all raise 65536 into x", "number out of range"),
         ("box-all 1", "not bytes"),
@@ -638,8 +638,8 @@ fn items_are_judged_from_left_to_right() {
         assert_eq!(answer(&mut simulation, line), expected, "{line}");
     }
     assert_eq!(
-        answer(&mut simulation, " issue-all  raise 01  into 037 # 1"),
-        format!("ok {}, 23 untouched", raise_1(1))
+        answer(&mut simulation, " issue-all  raise 01  into 047 # 1"),
+        format!("ok {}, 33 untouched", raise_1(1))
     );
     // The longest line that is read, and one byte more.
     let bytes = " 00".repeat(1363);

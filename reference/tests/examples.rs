@@ -76,21 +76,21 @@ fn frames_of_session_3() {
     let raise = hex("12 06 00 03 00 00 00 01 00 22 02 00 E8 03");
     let ack = hex("13 06 00 03 00 00 00 01 00");
     let welcome = hex(
-        "11 04 00 03 00 00 00 20 1B 00 00 00 01 00 00 00 00 00 00 00 00 01 00 00 01 \
-         00 00 00 00 00 00 00 00 00 00 00 00",
+        "11 04 00 03 00 00 00 20 25 00 00 00 01 00 00 00 00 00 00 00 00 01 00 00 01 \
+         00 00 00 00 00 00 00 00 00 00 00 00 00 00 00 00 00 00 00 00 00 00",
     );
     let mut cab = Cab::restarted(0);
     let mut office = Office::NeverOpened;
     assert_eq!(office.word(), Word::Waiting);
-    let open = office.open(3, 37).unwrap();
+    let open = office.open(3, 47).unwrap();
     assert_eq!(open, hex("10 04 00 03 00 00 00"));
-    assert_eq!(cab.frame_in(&open, 37), Ok(welcome.clone()));
+    assert_eq!(cab.frame_in(&open, 47), Ok(welcome.clone()));
     assert_eq!(office.frame_in(&welcome), Ok(()));
     assert_eq!(office.word(), Word::Settled);
-    assert_eq!(office.issue(Order::Raise(1000), 37), Ok(raise.clone()));
+    assert_eq!(office.issue(Order::Raise(1000), 47), Ok(raise.clone()));
     assert_eq!(office.word(), Word::Waiting);
-    assert_eq!(cab.frame_in(&raise, 37), Ok(ack.clone()));
-    assert_eq!(cab.frame_in(&raise, 37), Ok(ack.clone()), "the same order again");
+    assert_eq!(cab.frame_in(&raise, 47), Ok(ack.clone()));
+    assert_eq!(cab.frame_in(&raise, 47), Ok(ack.clone()), "the same order again");
     assert_eq!(cab.controller().settings().backlight, 1000);
     assert_eq!(office.frame_in(&ack), Ok(()));
     assert_eq!(office.word(), Word::Settled);
@@ -99,7 +99,7 @@ fn frames_of_session_3() {
 
 fn opened_office(session: u32) -> Office {
     let mut office = Office::NeverOpened;
-    office.open(session, 37).unwrap();
+    office.open(session, 47).unwrap();
     let settings = Settings::fresh();
     office
         .frame_in(&Frame::Welcome { session, settings }.to_bytes())
@@ -115,35 +115,35 @@ fn ack(session: u32, count: u16) -> Vec<u8> {
 fn window_of_eight() {
     let mut office = opened_office(3);
     for _ in 0..8 {
-        office.issue(Order::Raise(1), 37).unwrap();
+        office.issue(Order::Raise(1), 47).unwrap();
     }
-    assert_eq!(office.issue(Order::Raise(1), 37), Err(Refusal::WindowFull));
+    assert_eq!(office.issue(Order::Raise(1), 47), Err(Refusal::WindowFull));
     assert_eq!(office.progress().unwrap().issued, 8);
     assert_eq!(office.settings().unwrap().backlight, 8);
     office.frame_in(&ack(3, 5)).unwrap();
     office.frame_in(&ack(3, 4)).unwrap();
     office.frame_in(&ack(3, 9)).unwrap();
     assert_eq!(office.progress().unwrap().confirmed, 5);
-    assert_eq!(office.send_again(5, 37), Err(Refusal::NotUnanswered));
-    assert_eq!(office.send_again(9, 37), Err(Refusal::NotUnanswered));
+    assert_eq!(office.send_again(5, 47), Err(Refusal::NotUnanswered));
+    assert_eq!(office.send_again(9, 47), Err(Refusal::NotUnanswered));
     let again = hex("12 06 00 03 00 00 00 06 00 22 02 00 01 00");
-    assert_eq!(office.send_again(6, 37), Ok(again));
-    assert_eq!(office.send_again(6, 36), Err(Refusal::ShortOutput));
-    assert_eq!(office.send_again(5, 36), Err(Refusal::NotUnanswered));
+    assert_eq!(office.send_again(6, 47), Ok(again));
+    assert_eq!(office.send_again(6, 46), Err(Refusal::ShortOutput));
+    assert_eq!(office.send_again(5, 46), Err(Refusal::NotUnanswered));
 }
 
 #[test]
 fn order_65535_goes_and_the_next_does_not() {
     let mut office = opened_office(3);
     let mut cab = Cab::restarted(0);
-    cab.frame_in(&hex("10 04 00 03 00 00 00"), 37).unwrap();
+    cab.frame_in(&hex("10 04 00 03 00 00 00"), 47).unwrap();
     for number in 1..=65535 {
-        let order = office.issue(Order::Raise(1), 37).unwrap();
+        let order = office.issue(Order::Raise(1), 47).unwrap();
         assert_eq!(order[7..9], u16::to_le_bytes(number));
-        office.frame_in(&cab.frame_in(&order, 37).unwrap()).unwrap();
+        office.frame_in(&cab.frame_in(&order, 47).unwrap()).unwrap();
     }
     assert_eq!(office.word(), Word::Settled);
-    assert_eq!(office.issue(Order::Raise(1), 37), Err(Refusal::AllIssued));
+    assert_eq!(office.issue(Order::Raise(1), 47), Err(Refusal::AllIssued));
     assert_eq!(cab.open().unwrap().taken, 65535);
     assert_eq!(cab.controller().settings().backlight, 65535);
 }
@@ -153,13 +153,13 @@ fn nine_comes_before_eight() {
     let mut office = opened_office(3);
     for number in 1..=65535 {
         if number <= 65527 {
-            office.issue(Order::Lower(1), 37).unwrap();
+            office.issue(Order::Lower(1), 47).unwrap();
             office.frame_in(&ack(3, number)).unwrap();
         } else {
-            office.issue(Order::Lower(1), 37).unwrap();
+            office.issue(Order::Lower(1), 47).unwrap();
         }
     }
-    assert_eq!(office.issue(Order::Lower(1), 37), Err(Refusal::AllIssued));
+    assert_eq!(office.issue(Order::Lower(1), 47), Err(Refusal::AllIssued));
 }
 
 #[test]
@@ -317,8 +317,8 @@ fn a_sign_is_judged_after_all_else() {
 fn an_order_with_a_sign_above_1_is_taken() {
     let mut cab = Cab::restarted(0);
     let mut office = Office::NeverOpened;
-    let open = office.open(3, 37).unwrap();
-    office.frame_in(&cab.frame_in(&open, 37).unwrap()).unwrap();
+    let open = office.open(3, 47).unwrap();
+    office.frame_in(&cab.frame_in(&open, 47).unwrap()).unwrap();
     for (data, order, ack, offsets_and_status) in [
         (
             "05 00 00 07 00 01",
@@ -353,14 +353,15 @@ fn an_order_with_a_sign_above_1_is_taken() {
         ),
     ] {
         let (command, data) = (0x50, hex(data));
-        assert_eq!(office.issue(Order::Command { command, data }, 37), Ok(hex(order)));
+        assert_eq!(office.issue(Order::Command { command, data }, 47), Ok(hex(order)));
         assert_eq!(office.word(), Word::Waiting);
-        assert_eq!(cab.frame_in(&hex(order), 37), Ok(hex(ack)));
+        assert_eq!(cab.frame_in(&hex(order), 47), Ok(hex(ack)));
         office.frame_in(&hex(ack)).unwrap();
         assert_eq!(office.word(), Word::Settled);
         let [offsets, status] = offsets_and_status;
         let block = hex(&format!(
-            "00 00 01 00 00 00 00 00 00 {offsets} 00 00 00 00 00 00 00 00 {status}"
+            "00 00 01 00 00 00 00 00 00 {offsets} 00 00 00 00 00 00 00 00 \
+             00 00 00 00 00 00 00 00 00 00 {status}"
         ));
         assert_eq!(cab.controller().settings().to_block(), block, "{order}");
         assert_eq!(office.settings().unwrap().to_block(), block, "{order}");
@@ -440,13 +441,14 @@ fn section_4() {
         ("A5 42 01 9F E2", "03"),
         ("A5 66 04 FF FF FF FF 66", "03"), // printed 04
         ("A5 00 04 AB 00 CD 12 8E", "05"),
+        ("A5 C8 01 02 CB", "07"),
         ("A5 01 00 01", "01 02 90 13 A6"),
         ("A5 01 02 FF FF 00", "02"), // printed 05, but the sum is 01
         ("A5 01 02 FF FF 01", "05"),
     ] {
         answers(&mut controller, bytes, reply);
     }
-    assert_eq!(controller.settings().status, [0x01, 0, 0, 0xD0]);
+    assert_eq!(controller.settings().status, [0x01, 0x20, 0, 0xD0]);
 }
 
 #[test]
@@ -476,42 +478,42 @@ fn box_refusals() {
     let mut cab = Cab::restarted(2);
     let order = |number| hex(&format!("12 06 00 03 00 00 00 0{number} 00 21 01 00 01"));
     assert_eq!(
-        cab.frame_in(&order(1), 37),
+        cab.frame_in(&order(1), 47),
         refused(Refusal::NoneOpen, "14 05 00 03 00 00 00 05")
     );
     assert_eq!(
-        cab.frame_in(&hex("10 04 00 02 00 00 00"), 37),
+        cab.frame_in(&hex("10 04 00 02 00 00 00"), 47),
         refused(Refusal::WrongSession, "14 05 00 02 00 00 00 06")
     );
     assert!(cab.frame_in(&hex("10 04 00 03 00 00 00"), 64).is_ok());
     assert_eq!(
-        cab.frame_in(&order(0), 37),
+        cab.frame_in(&order(0), 47),
         refused(fault(Wrong::Contents, 0), "14 05 00 00 00 00 00 11")
     );
     assert_eq!(
-        cab.frame_in(&order(2), 37),
+        cab.frame_in(&order(2), 47),
         refused(Refusal::BeyondNext, "14 05 00 03 00 00 00 07")
     );
-    assert_eq!(cab.frame_in(&order(1), 37), Ok(hex("13 06 00 03 00 00 00 01 00")));
+    assert_eq!(cab.frame_in(&order(1), 47), Ok(hex("13 06 00 03 00 00 00 01 00")));
     assert_eq!(
-        cab.frame_in(&hex("10 04 00 03 00 00 00"), 37),
+        cab.frame_in(&hex("10 04 00 03 00 00 00"), 47),
         Ok(hex("13 06 00 03 00 00 00 01 00"))
     );
     assert_eq!(
-        cab.frame_in(&hex("13 06 00 03 00 00 00 01 00"), 37),
+        cab.frame_in(&hex("13 06 00 03 00 00 00 01 00"), 47),
         refused(fault(Wrong::OtherEnd, 0), "14 05 00 00 00 00 00 13")
     );
     let short = Err(Refused {
         refusal: Refusal::ShortOutput,
         frame: None,
     });
-    assert_eq!(cab.frame_in(&[], 36), short);
+    assert_eq!(cab.frame_in(&[], 46), short);
 }
 
 #[test]
 fn settings_that_no_controller_holds() {
     let fresh = Settings::fresh().to_block();
-    assert_eq!(fresh.len(), 27);
+    assert_eq!(fresh.len(), 37);
     assert_eq!(Settings::from_block(&fresh), Some(Settings::fresh()));
     let with = |place: usize, value: u8| {
         let mut block = fresh.clone();
@@ -524,7 +526,10 @@ fn settings_that_no_controller_holds() {
         !with(11, 0) && !with(11, 2) && !with(14, 0),
         "minus 0, or another sign"
     );
-    assert!((23..27).all(|place| with(place, 0xFF)));
+    assert!(!with(23, 2) && !with(32, 4), "calibration mode and gain");
+    assert!(with(23, 1) && with(32, 3));
+    assert!((24..32).all(|place| with(place, 0xFF)), "levels");
+    assert!((33..37).all(|place| with(place, 0xFF)), "status");
 }
 
 #[test]

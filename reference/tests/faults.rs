@@ -18,7 +18,8 @@ const ORDER: &str = "12 06 00 03 00 00 00 01 00";
 const ACK: &str = "13 06 00 03 00 00 00 01 00";
 const REFUSE: &str = "14 05 00 03 00 00 00 05";
 /// The settings of a fresh controller.
-const FRESH: &str = "00 00 01 00 00 00 00 00 00 00 00 01 00 00 01 00 00 00 00 00 00 00 00 00 00 00 00";
+const FRESH: &str = "00 00 01 00 00 00 00 00 00 00 00 01 00 00 01 00 00 00 00 00 00 00 00 \
+                     00 00 00 00 00 00 00 00 00 00 00 00 00 00";
 
 const ENDS: [End; 2] = [End::Box, End::Office];
 
@@ -72,7 +73,7 @@ fn fourteen_ends_inside_a_field_or_before_a_needed_one() {
             "FF",
             "00 00",
             "15 01 00",
-            "20 1B 00 00",
+            "20 25 00 00",
             "22 02",
             // Before 16.
             "10 05 00 03 00 00 00",
@@ -101,7 +102,7 @@ fn fourteen_ends_inside_a_field_or_before_a_needed_one() {
             "00 00",
             "24 01 00",
             "10 04 00 03 00 00",
-            "20 1B",
+            "20 25",
             "21 12 00 00",
             "22 03 00 E8 03",
             "23 FF FF E8 03",
@@ -113,17 +114,17 @@ fn fourteen_ends_inside_a_field_or_before_a_needed_one() {
         &[
             "",
             "20",
-            "20 1B",
-            "20 1B 00",
-            &format!("20 1B 00 {}", &FRESH[..26 * 3 - 1]),
-            &format!("20 1B 01 {FRESH}"),
-            &format!("20 1C 00 {FRESH}"),
+            "20 25",
+            "20 25 00",
+            &format!("20 25 00 {}", &FRESH[..36 * 3 - 1]),
+            &format!("20 25 01 {FRESH}"),
+            &format!("20 26 00 {FRESH}"),
             "FF",
             "00 00",
             "22 02 00 E8",
             "11 04 00 03 00 00",
             // Before 17: master 2.
-            "20 1B 00 00 00 02",
+            "20 25 00 00 00 02",
         ],
     );
 }
@@ -138,7 +139,7 @@ fn fifteen_an_unexpected_tag_or_order_of_tags() {
             "0F 04 00 03 00 00 00",
             "15 05 00 03 00 00 00 05",
             "90 04 00 03 00 00 00",
-            &format!("20 1B 00 {FRESH}"),
+            &format!("20 25 00 {FRESH}"),
             "21 01 00 01",
             "22 02 00 E8 03",
             "23 02 00 E8 03",
@@ -160,7 +161,7 @@ fn fifteen_an_unexpected_tag_or_order_of_tags() {
             "1F 02 00 E8 03",
             "24 02 00 E8 03",
             "A2 02 00 E8 03",
-            &format!("20 1B 00 {FRESH}"),
+            &format!("20 25 00 {FRESH}"),
             OPEN,
             ORDER,
             REFUSE,
@@ -175,17 +176,17 @@ fn fifteen_an_unexpected_tag_or_order_of_tags() {
         15,
         &[
             "00 00 00",
-            &format!("1F 1B 00 {FRESH}"),
-            &format!("24 1B 00 {FRESH}"),
-            &format!("A0 1B 00 {FRESH}"),
+            &format!("1F 25 00 {FRESH}"),
+            &format!("24 25 00 {FRESH}"),
+            &format!("A0 25 00 {FRESH}"),
             "21 01 00 01",
             "22 02 00 E8 03",
             "23 02 00 E8 03",
             WELCOME,
             ACK,
-            &format!("22 1B 00 {FRESH}"),
+            &format!("22 25 00 {FRESH}"),
             "14 05 00 00 00 00 00 04",
-            &format!("21 01 00 01 20 1B 00 {FRESH}"),
+            &format!("21 01 00 01 20 25 00 {FRESH}"),
         ],
     );
 }
@@ -199,7 +200,7 @@ fn sixteen_a_wrong_length_for_its_tag() {
             "10 03 00 03 00 00",
             "10 05 00 03 00 00 00 00",
             "11 03 00 03 00 00",
-            &format!("11 05 00 03 00 00 00 00 20 1B 00 {FRESH}"),
+            &format!("11 05 00 03 00 00 00 00 20 25 00 {FRESH}"),
             "12 05 00 03 00 00 00 01",
             "12 04 00 03 00 00 00 22 02 00 E8 03",
             "12 07 00 03 00 00 00 01 00 00 22 02 00 E8 03",
@@ -237,9 +238,11 @@ fn sixteen_a_wrong_length_for_its_tag() {
         16,
         &[
             "20 00 00",
-            &format!("20 1A 00 {}", &FRESH[..26 * 3 - 1]),
-            &format!("20 1C 00 {FRESH} 00"),
-            &format!("20 1A 00 {FRESH}"),
+            &format!("20 24 00 {}", &FRESH[..36 * 3 - 1]),
+            &format!("20 26 00 {FRESH} 00"),
+            &format!("20 24 00 {FRESH}"),
+            // Without what calibration is about.
+            &format!("20 1B 00 {}", &FRESH[..27 * 3 - 1]),
             // Before 17: master 2.
             "20 03 00 00 00 02",
         ],
@@ -286,16 +289,18 @@ fn seventeen_contents_not_allowed() {
 #[test]
 fn seventeen_in_the_settings() {
     // Which values each byte may have; the offsets stay other than 0 here, so both signs are good.
-    let held = "34 12 01 01 00 02 10 00 64 05 01 00 07 01 01 01 00 02 00 03 00 04 00 FF 00 FF 00";
-    for place in 0..27 {
+    let held = "34 12 01 01 00 02 10 00 64 05 01 00 07 01 01 01 00 02 00 03 00 04 00 \
+                01 05 00 06 00 07 00 08 00 03 FF 00 FF 00";
+    for place in 0..37 {
         let most = match place {
-            2..=4 | 11 | 14 => 1,
+            2..=4 | 11 | 14 | 23 => 1,
             5 => 2,
             8 => 100,
+            32 => 3,
             _ => 255,
         };
         for value in 0..=255 {
-            let mut bytes = hex(&format!("{WELCOME} 20 1B 00 {held}"));
+            let mut bytes = hex(&format!("{WELCOME} 20 25 00 {held}"));
             bytes[10 + place] = value;
             let expected = (value > most).then(|| "17 at 7".to_string());
             assert_eq!(told(&bytes, End::Office), expected, "byte {place} is {value}");
@@ -305,14 +310,14 @@ fn seventeen_in_the_settings() {
     // An offset of 0 reads back with sign 1 alone.
     for place in [11, 14] {
         for value in 0..=255 {
-            let mut bytes = hex(&format!("{WELCOME} 20 1B 00 {FRESH}"));
+            let mut bytes = hex(&format!("{WELCOME} 20 25 00 {FRESH}"));
             bytes[10 + place] = value;
             let expected = (value != 1).then(|| "17 at 7".to_string());
             assert_eq!(told(&bytes, End::Office), expected, "byte {place} is {value}");
         }
     }
     // Bytes after have a higher offset.
-    let bytes = hex(&format!("{WELCOME} 20 1B 00 00 00 02 {} FF", &FRESH[9..]));
+    let bytes = hex(&format!("{WELCOME} 20 25 00 00 00 02 {} FF", &FRESH[9..]));
     expect(&bytes, End::Office, 17, 7);
 }
 
@@ -325,7 +330,7 @@ fn eighteen_bytes_after_the_end() {
         (End::Box, format!("{ORDER} 23 02 00 E8 03"), 14),
         (End::Box, format!("{ORDER} 21 03 00 00 B8 88"), 15),
         (End::Box, format!("{ORDER} 21 11 00{}", " 00".repeat(17)), 29),
-        (End::Office, format!("{WELCOME} 20 1B 00 {FRESH}"), 37),
+        (End::Office, format!("{WELCOME} 20 25 00 {FRESH}"), 47),
         (End::Office, ACK.to_string(), 9),
         (End::Office, REFUSE.to_string(), 8),
         (End::Office, "14 05 00 00 00 00 00 0E".to_string(), 8),
@@ -346,7 +351,7 @@ fn nineteen_meant_for_the_other_end() {
         (End::Office, OPEN.to_string()),
         (End::Office, format!("{ORDER} 22 02 00 E8 03")),
         (End::Office, format!("{ORDER} 21 01 00 01")),
-        (End::Box, format!("{WELCOME} 20 1B 00 {FRESH}")),
+        (End::Box, format!("{WELCOME} 20 25 00 {FRESH}")),
         (End::Box, ACK.to_string()),
         (End::Box, REFUSE.to_string()),
         (End::Box, "14 05 00 00 00 00 00 13".to_string()),
@@ -409,7 +414,7 @@ fn read_from_the_left(bytes: &[u8], end: End) -> Option<(u8, usize)> {
         return Some((14, offset));
     };
     let number = match (tag, second) {
-        (0x11, 0x20) if contents.len() == 27 => Settings::from_block(contents).is_none().then_some(17),
+        (0x11, 0x20) if contents.len() == 37 => Settings::from_block(contents).is_none().then_some(17),
         (0x11, 0x20) => Some(16),
         (0x12, 0x21) => (contents.is_empty() || contents.len() > 17).then_some(16),
         (0x12, 0x22 | 0x23) => (contents.len() != 2).then_some(16),
@@ -454,6 +459,10 @@ fn random_settings(rng: &mut Rng) -> Settings {
         heater: Heater { khz: word(), duty: 0 },
         bezel: [i32::from(word()), -i32::from(word())],
         pixels: [word(), word(), word(), word()],
+        red: word(),
+        green: word(),
+        blue: word(),
+        current_limit: word(),
         ..Settings::fresh()
     };
     settings.master = rng.chance(50);
@@ -461,6 +470,8 @@ fn random_settings(rng: &mut Rng) -> Settings {
     settings.splash = rng.chance(50);
     settings.strength = rng.below(3) as u8;
     settings.heater.duty = rng.below(101) as u8;
+    settings.calibration = rng.chance(50);
+    settings.gain = rng.below(4) as u8;
     settings.status = rng.number().to_le_bytes()[..4].try_into().unwrap();
     settings
 }
@@ -600,8 +611,8 @@ fn frames_damaged_in_several_places_are_told_as_reading_from_the_left_does() {
 #[test]
 fn the_box_writes_the_number_and_names_session_0() {
     let mut cab = Cab::restarted(0);
-    cab.frame_in(&hex(OPEN), 37).unwrap();
-    cab.frame_in(&hex(&format!("{ORDER} 22 02 00 E8 03")), 37)
+    cab.frame_in(&hex(OPEN), 47).unwrap();
+    cab.frame_in(&hex(&format!("{ORDER} 22 02 00 E8 03")), 47)
         .unwrap();
     let held = format!("{cab:?}");
     for (bytes, told, number) in [
@@ -617,7 +628,7 @@ fn the_box_writes_the_number_and_names_session_0() {
         (format!("{ORDER} 22 02 00 E8 03 00"), "18 at 14", "12"),
         (ACK.to_string(), "19 at 0", "13"),
     ] {
-        let refused = cab.frame_in(&hex(&bytes), 37).unwrap_err();
+        let refused = cab.frame_in(&hex(&bytes), 47).unwrap_err();
         assert_eq!(refused.refusal.to_string(), told, "{bytes}");
         let frame = hex(&format!("14 05 00 00 00 00 00 {number}"));
         assert_eq!(refused.frame, Some(frame.clone()), "{bytes}");
@@ -628,7 +639,7 @@ fn the_box_writes_the_number_and_names_session_0() {
             refusal: Refusal::ShortOutput,
             frame: None,
         });
-        assert_eq!(cab.frame_in(&hex(&bytes), 36), short, "{bytes}");
+        assert_eq!(cab.frame_in(&hex(&bytes), 46), short, "{bytes}");
     }
     assert_eq!(format!("{cab:?}"), held);
 }
@@ -636,9 +647,9 @@ fn the_box_writes_the_number_and_names_session_0() {
 #[test]
 fn the_office_does_nothing_on_refuse_14_to_19_or_a_fault() {
     let mut office = Office::NeverOpened;
-    office.open(3, 37).unwrap();
+    office.open(3, 47).unwrap();
     office
-        .frame_in(&hex(&format!("{WELCOME} 20 1B 00 {FRESH}")))
+        .frame_in(&hex(&format!("{WELCOME} 20 25 00 {FRESH}")))
         .unwrap();
     let held = format!("{office:?}");
     for number in 14..=19 {

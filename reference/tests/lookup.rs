@@ -1,4 +1,4 @@
-//! What `lookup` and `measure` share: the nine rows beside what the controller does, a difference in
+//! What `lookup` and `measure` share: the fifteen rows beside what the controller does, a difference in
 //! words, the shuffled order, and the lines of the times.
 
 use reference::controller::Controller;
@@ -8,6 +8,7 @@ use reference::rng::Rng;
 
 const WRITTEN: u32 = 0x1000;
 const WITH_MASTER_OFF: u32 = 0x2000;
+const IN_CALIBRATION_ONLY: u32 = 0x4000;
 
 /// The reply's first two bytes: the response, and behind it the data count of a good read.
 fn reply(controller: &mut Controller, way: Way, id: u8, data: &[u8]) -> [u8; 2] {
@@ -18,13 +19,23 @@ fn reply(controller: &mut Controller, way: Way, id: u8, data: &[u8]) -> [u8; 2] 
     [controller.exchange(0x00), controller.exchange(0x00)]
 }
 
-fn with_master_off() -> Controller {
+/// A controller to which this has been written.
+fn after(id: u8, value: u8) -> Controller {
     let mut controller = Controller::fresh();
-    assert_eq!(reply(&mut controller, Way::Write, 0x01, &[0])[0], 0x01);
+    assert_eq!(reply(&mut controller, Way::Write, id, &[value])[0], 0x01);
     controller
 }
 
+fn with_master_off() -> Controller {
+    after(0x01, 0)
+}
+
+fn in_calibration_mode() -> Controller {
+    after(0x64, 1)
+}
+
 /// The row as the controller shows it: no number is in it, and no row where a read is an invalid command.
+/// Writes have no data here: one that is available is answered with 05.
 fn shown(id: u8) -> Option<u32> {
     let [response, count] = reply(&mut Controller::fresh(), Way::Read, id, &[]);
     if response == 0x03 {
@@ -32,11 +43,24 @@ fn shown(id: u8) -> Option<u32> {
     }
     assert_eq!(response, 0x01, "read of ID {id:02X}h");
     let mut row = u32::from(count);
-    if reply(&mut Controller::fresh(), Way::Write, id, &[])[0] != 0x03 {
-        row += WRITTEN;
+    let [normal, calibrating] = [Controller::fresh(), in_calibration_mode()]
+        .map(|mut controller| reply(&mut controller, Way::Write, id, &[])[0]);
+    match (normal, calibrating) {
+        (0x03, 0x03) => {}
+        (0x05, 0x05) => row += WRITTEN,
+        (0x04, 0x05) => row += WRITTEN + IN_CALIBRATION_ONLY,
+        other => panic!("write of ID {id:02X}h: {other:02X?}"),
     }
-    if reply(&mut with_master_off(), Way::Read, id, &[])[0] != 0x04 {
-        row += WITH_MASTER_OFF;
+    // In calibration mode it is read too, and with master off its writes fare as its reads.
+    assert_eq!(
+        reply(&mut in_calibration_mode(), Way::Read, id, &[])[0..1],
+        [0x01]
+    );
+    let [read, written] = [Way::Read, Way::Write].map(|way| reply(&mut with_master_off(), way, id, &[])[0]);
+    match (read, written) {
+        (0x04, 0x03 | 0x04) => {}
+        (0x01, 0x05) => row += WITH_MASTER_OFF,
+        other => panic!("ID {id:02X}h with master off: {other:02X?}"),
     }
     Some(row)
 }
@@ -51,8 +75,33 @@ fn the_rows_are_the_controllers() {
             assert_eq!(expected(command), answer, "{command:02X}h");
         }
     }
-    assert_eq!(rows, 9);
-    assert_eq!(commands_with_rows().len(), 18);
+    assert_eq!(rows, 15);
+    assert_eq!(commands_with_rows().len(), 30);
+}
+
+#[test]
+fn rows_of_the_last_ids() {
+    // Register 9, then 10 to 14; 63h and 6Ah have no row.
+    for (command, answer) in [
+        (0xC6, 0x0000),
+        (0xC7, 0x0000),
+        (0xC8, 0x1901),
+        (0xC9, 0x1901),
+        (0xCA, 0x5A02),
+        (0xCB, 0x5A02),
+        (0xCC, 0x5B02),
+        (0xCD, 0x5B02),
+        (0xCE, 0x5C02),
+        (0xCF, 0x5C02),
+        (0xD0, 0x5D02),
+        (0xD1, 0x5D02),
+        (0xD2, 0x5E01),
+        (0xD3, 0x5E01),
+        (0xD4, 0x0000),
+        (0xD5, 0x0000),
+    ] {
+        assert_eq!(expected(command), answer, "{command:02X}h");
+    }
 }
 
 #[test]
@@ -72,9 +121,28 @@ fn answers_in_words() {
             "33h status, read only, 4 data bytes, not available while master is off",
         ),
         (
-            0x4C00,
-            "a register number 12, which is none, read only, 0 data bytes, \
+            0x1901,
+            "64h calibration mode, written and read, 1 data byte, not available while master is off",
+        ),
+        (
+            0x5A02,
+            "65h red level, written and read, 2 data bytes, not available while master is off, \
+             written in calibration mode only",
+        ),
+        (
+            0x5E01,
+            "69h sensor gain, written and read, 1 data byte, not available while master is off, \
+             written in calibration mode only",
+        ),
+        (
+            0x8F00,
+            "a register number 15, which is none, read only, 0 data bytes, \
              not available while master is off, and bits above these",
+        ),
+        (
+            0x1_7101,
+            "01h master, written and read, 1 data byte, available while master is off, \
+             written in calibration mode only, and bits above these",
         ),
     ] {
         assert_eq!(in_words(answer), words);
@@ -96,6 +164,16 @@ fn a_difference_is_told_in_words() {
         "  by table  1502h  27h heater, written and read, 2 data bytes, not available while master is off",
         "  by match  1503h  27h heater, written and read, 3 data bytes, not available while master is off",
         "  expected  1503h  27h heater, written and read, 3 data bytes, not available while master is off",
+    ];
+    assert_eq!(told, lines.join("\n"));
+    let told = difference(0xCE, 0x5C02, 0x1C02).expect("the rights differ");
+    let lines = [
+        "command byte CEh, a write of ID 67h:",
+        "  by table  5C02h  67h blue level, written and read, 2 data bytes, not available while master is off, \
+         written in calibration mode only",
+        "  by match  1C02h  67h blue level, written and read, 2 data bytes, not available while master is off",
+        "  expected  5C02h  67h blue level, written and read, 2 data bytes, not available while master is off, \
+         written in calibration mode only",
     ];
     assert_eq!(told, lines.join("\n"));
 }

@@ -17,8 +17,8 @@ fn at_box(simulation: &mut Simulation) -> String {
     told.split(", master").next().unwrap_or_default().to_string()
 }
 
-const WELCOME_3: &str = "11 04 00 03 00 00 00 20 1B 00 00 00 01 00 00 00 00 00 00 00 00 01 00 00 01 \
-                         00 00 00 00 00 00 00 00 00 00 00 00";
+const WELCOME_3: &str = "11 04 00 03 00 00 00 20 25 00 00 00 01 00 00 00 00 00 00 00 00 01 00 00 01 \
+                         00 00 00 00 00 00 00 00 00 00 00 00 00 00 00 00 00 00 00 00 00 00";
 
 /// Office 1 has session 3 and three orders to raise by 10: one confirmed, one taken, one on its way. Office 2 has
 /// opened session 4 above it.
@@ -81,10 +81,10 @@ fn each_of_eight_offices_has_its_own_state() {
 #[test]
 fn each_office_has_its_own_receiver() {
     let mut simulation = Simulation::new();
-    let half = "stream-office 01 25 00 11 04 00 03";
-    let rest = "stream-office 00 00 00 20 1B 00 00 00 01 00 00 00 00 00 00 00 00 01 00 00 01 00 00 00 00 00 00 00 00 \
-                00 00 00 00";
-    let welcomed = format!("took 33 frame {WELCOME_3}: ok");
+    let half = "stream-office 01 2F 00 11 04 00 03";
+    let rest = "stream-office 00 00 00 20 25 00 00 00 01 00 00 00 00 00 00 00 00 01 00 00 01 00 00 00 00 00 00 00 00 \
+                00 00 00 00 00 00 00 00 00 00 00 00 00 00";
+    let welcomed = format!("took 43 frame {WELCOME_3}: ok");
     run(&mut simulation, &["open 3", "to-box 1"]);
     expect(
         &mut simulation,
@@ -125,8 +125,8 @@ fn frames_of_all_offices_are_counted_together() {
                 "took 17 frame 12 06 00 03 00 00 00 03 00 22 02 00 0A 00: refused 6 14 05 00 03 00 00 00 06",
             ),
             (
-                "to-box-all 6 1 into 74",
-                "ok 13 06 00 04 00 00 00 01 00 / refused 6 14 05 00 03 00 00 00 06, 57 untouched",
+                "to-box-all 6 1 into 94",
+                "ok 13 06 00 04 00 00 00 01 00 / refused 6 14 05 00 03 00 00 00 06, 77 untouched",
             ),
             ("to-office 8", "ok"),
             ("to-office 9", "no such frame"),
@@ -295,10 +295,10 @@ fn a_run_over_two_sessions() {
     run(&mut simulation, &["raise 10", "raise 20", "use 2", "open 4"]);
     let welcome = WELCOME_3
         .replacen("03", "04", 1)
-        .replacen("1B 00 00 00", "1B 00 0A 00", 1);
+        .replacen("25 00 00 00", "25 00 0A 00", 1);
     let expected = format!(
         "ok 13 06 00 03 00 00 00 01 00 / ok {welcome} / refused 6 14 05 00 03 00 00 00 06 / ok {welcome}, {} untouched",
-        516 - 9 - 37 - 8 - 37
+        516 - 9 - 47 - 8 - 47
     );
     expect(&mut simulation, &[("to-box-all 2 4 3 4 into 516", &expected)]);
     assert_eq!(at_box(&mut simulation), "box session 4, 0 orders taken: level 10");

@@ -1,5 +1,5 @@
 //! The controller written for speed: document 01's examples of the bus, with the bytes printed there,
-//! document 02's bezel sign, and random traffic beside the other controller.
+//! document 02's bezel sign and calibration mode, and random traffic beside the other controller.
 
 mod common;
 
@@ -7,6 +7,7 @@ use common::hex;
 use reference::controller::Controller;
 use reference::packet::{Way, write_packet};
 use reference::rng::Rng;
+use reference::settings::Settings;
 use reference::{plain, traffic};
 
 const STREAMS: u64 = 40;
@@ -119,8 +120,9 @@ impl Pair {
         let read = |command| vec![0xA5, command, 0x00, command];
         // Master as it is, then on, so that the others answer; status last, since the rest may set it.
         let first = [read(0x03), hex("A5 02 01 01 04")];
-        let rest = [0x01, 0x05, 0x4B, 0x4D, 0x4F, 0x51, 0xA7, 0x67].map(read);
-        for packet in first.into_iter().chain(rest) {
+        let rest = [0x01, 0x05, 0x4B, 0x4D, 0x4F, 0x51, 0xA7].map(read);
+        let calibration = [0xC9, 0xCB, 0xCD, 0xCF, 0xD1, 0xD3, 0x67].map(read);
+        for packet in first.into_iter().chain(rest).chain(calibration) {
             let output = self.exchanged(&[&packet[..], &[0x00; 11]].concat());
             assert_eq!(output[packet.len()], 0x01, "{packet:02X?}");
         }
@@ -190,8 +192,129 @@ fn signs() {
 }
 
 #[test]
+fn calibration() {
+    let status = "A5 67 00 67";
+    let into_mode = ("A5 C8 01 01 CA", "01");
+    let not_available = (status, "01 04 04 00 00 00 09");
+    // All six, each read behind all writes: levels 513, 1027, 1541 and 2055, gain 3.
+    let levels = [
+        ("A5 CB 00 CB", "01 02 01 02 06"),
+        ("A5 CD 00 CD", "01 02 03 04 0A"),
+        ("A5 CF 00 CF", "01 02 05 06 0E"),
+        ("A5 D1 00 D1", "01 02 07 08 12"),
+        ("A5 D3 00 D3", "01 01 03 05"),
+    ];
+    let trimmed = [
+        into_mode,
+        ("A5 CA 02 01 02 CF", "01"),
+        ("A5 CC 02 03 04 D5", "01"),
+        ("A5 CE 02 05 06 DB", "01"),
+        ("A5 D0 02 07 08 E1", "01"),
+        ("A5 D2 01 03 D6", "01"),
+    ];
+    let mode_1 = ("A5 C9 00 C9", "01 01 01 03");
+    let mode_0 = ("A5 C9 00 C9", "01 01 00 02");
+    let none = (status, "01 04 00 00 00 00 05");
+    fresh_answers(&[&trimmed[..], &levels, &[mode_1, none]].concat());
+    // The levels stay when the mode is left, and when master goes off; so does the mode in that case.
+    let left = [("A5 C8 01 00 C9", "01"), mode_0];
+    fresh_answers(&[&trimmed[..], &left, &levels, &[none]].concat());
+    let off_and_on = [("A5 02 01 00 03", "01"), ("A5 02 01 01 04", "01"), mode_1];
+    fresh_answers(&[&trimmed[..], &off_and_on, &levels, &[none]].concat());
+
+    let zero = [
+        ("A5 CB 00 CB", "01 02 00 00 03"),
+        ("A5 CD 00 CD", "01 02 00 00 03"),
+        ("A5 CF 00 CF", "01 02 00 00 03"),
+        ("A5 D1 00 D1", "01 02 00 00 03"),
+        ("A5 D3 00 D3", "01 01 00 02"),
+        mode_0,
+    ];
+    for write in [
+        "A5 CA 02 01 02 CF",
+        "A5 CC 02 03 04 D5",
+        "A5 CE 02 05 06 DB",
+        "A5 D0 02 07 08 E1",
+        "A5 D2 01 03 D6",
+        // Whatever the length and the data.
+        "A5 CA 00 CA",
+        "A5 D0 03 01 02 03 D9",
+        "A5 D2 01 04 D7",
+        "A5 D2 02 04 04 DC",
+    ] {
+        fresh_answers(&[&[(write, "04"), not_available], &zero[..]].concat());
+    }
+    for (request, response, status_told) in [
+        // Behind the sum; 63h and 6Ah are unknown in either mode.
+        ("A5 CA 02 01 02 CE", "02", "01 04 00 00 00 10 15"),
+        ("A5 C6 00 C6", "03", "01 04 01 00 00 00 06"),
+        ("A5 D4 00 D4", "03", "01 04 01 00 00 00 06"),
+        ("A5 C8 01 02 CB", "07", "01 04 00 20 00 00 25"),
+        ("A5 C8 01 FF C8", "07", "01 04 00 20 00 00 25"),
+        ("A5 C8 00 C8", "05", "01 04 00 00 00 40 45"),
+        ("A5 C8 02 02 00 CC", "05", "01 04 00 00 00 40 45"),
+        ("A5 C9 01 00 CA", "05", "01 04 00 00 00 40 45"),
+        ("A5 CB 01 00 CC", "05", "01 04 00 00 00 40 45"),
+    ] {
+        let told = [(request, response), (status, status_told)];
+        fresh_answers(&[&told, &zero[..]].concat());
+        fresh_answers(&[&trimmed[..], &told, &levels, &[mode_1]].concat());
+    }
+    for (write, response, status_told) in [
+        ("A5 CA 01 FF CA", "05", "01 04 00 00 00 40 45"),
+        ("A5 CE 03 09 09 09 EC", "05", "01 04 00 00 00 40 45"),
+        ("A5 D2 01 04 D7", "07", "01 04 00 20 00 00 25"),
+        ("A5 D2 01 FF D2", "07", "01 04 00 20 00 00 25"),
+        ("A5 D2 02 04 04 DC", "05", "01 04 00 00 00 40 45"),
+    ] {
+        let told = [(write, response), (status, status_told), mode_1];
+        fresh_answers(&[&trimmed[..], &told, &levels].concat());
+    }
+    // All six with master off.
+    for request in [
+        "A5 C8 01 00 C9",
+        "A5 CA 02 09 09 DE",
+        "A5 D2 01 00 D3",
+        "A5 C9 00 C9",
+        "A5 CB 00 CB",
+        "A5 CD 00 CD",
+        "A5 CF 00 CF",
+        "A5 D1 00 D1",
+        "A5 D3 00 D3",
+    ] {
+        let told = [
+            ("A5 02 01 00 03", "01"),
+            (request, "04"),
+            ("A5 02 01 01 04", "01"),
+            not_available,
+            mode_1,
+        ];
+        fresh_answers(&[&trimmed[..], &told, &levels].concat());
+    }
+}
+
+/// How much of calibration a controller's traffic met, each by what it was about.
+#[derive(Default)]
+struct Met {
+    in_mode: usize,
+    trimmed_and_left: usize,
+    trimmed_with_master_off: usize,
+}
+
+impl Met {
+    fn note(&mut self, held: &Settings) {
+        let levels = [held.red, held.green, held.blue, held.current_limit];
+        let trimmed = !levels.contains(&0) && held.gain != 0;
+        self.in_mode += usize::from(held.calibration);
+        self.trimmed_and_left += usize::from(trimmed && !held.calibration);
+        self.trimmed_with_master_off += usize::from(trimmed && held.calibration && !held.master);
+    }
+}
+
+#[test]
 fn random_traffic() {
     let mut seen = [0; 4];
+    let mut met = Met::default();
     for stream in 0..STREAMS {
         let mut rng = Rng::new(1, stream);
         let mut bytes = Vec::new();
@@ -204,6 +327,7 @@ fn random_traffic() {
             let most = rng.pick(&[0, 1, 2, 10, 300, 5000]);
             let (run, after) = rest.split_at(rng.between(0, most).min(rest.len()));
             pair.exchanged(run);
+            met.note(pair.reference.settings());
             rest = after;
         }
         pair.read_all();
@@ -212,6 +336,8 @@ fn random_traffic() {
         }
     }
     assert_eq!(seen, [0x0D, 0x20, 0x00, 0xF0], "all status bits are met");
+    let counts = [met.in_mode, met.trimmed_and_left, met.trimmed_with_master_off];
+    assert!(counts.iter().all(|count| *count >= 10), "{counts:?}");
 }
 
 #[test]

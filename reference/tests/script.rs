@@ -16,10 +16,11 @@ fn run(simulation: &mut Simulation, lines: &[&str]) {
 }
 
 const FRESH: &str = "level 0, master on, not parked, splash mode 0, drive strength 0, heater 0 kHz at 0 %, \
-                     bezel 0 and 0, test pixels (0, 0) to (0, 0), status none";
+                     bezel 0 and 0, test pixels (0, 0) to (0, 0), normal mode, red level 0, green level 0, blue level 0, \
+                     current limit 0, sensor gain 0, status none";
 
 fn at_level(level: u16) -> String {
-    FRESH.replace("level 0", &format!("level {level}"))
+    FRESH.replacen("level 0", &format!("level {level}"), 1)
 }
 
 #[test]
@@ -111,25 +112,25 @@ fn wrap_and_the_receiver_on_the_bench() {
     }
 }
 
-const WELCOME_3: &str = "11 04 00 03 00 00 00 20 1B 00 00 00 01 00 00 00 00 00 00 00 00 01 00 00 01 \
-                         00 00 00 00 00 00 00 00 00 00 00 00";
+const WELCOME_3: &str = "11 04 00 03 00 00 00 20 25 00 00 00 01 00 00 00 00 00 00 00 00 01 00 00 01 \
+                         00 00 00 00 00 00 00 00 00 00 00 00 00 00 00 00 00 00 00 00 00 00";
 
 #[test]
 fn streams_to_both_ends() {
     let mut simulation = Simulation::new();
     let opened = format!("took 4 / took 4 / took 2 frame 10 04 00 03 00 00 00: ok {WELCOME_3}");
-    let welcomed = format!("took 40 frame {WELCOME_3}: ok");
+    let welcomed = format!("took 50 frame {WELCOME_3}: ok");
     for (line, expected) in [
         ("open 3", "ok 10 04 00 03 00 00 00"),
         ("pieces-box 1 4", &opened),
         ("pieces-office 1 128", &welcomed),
         ("raise 1000", "ok 12 06 00 03 00 00 00 01 00 22 02 00 E8 03"),
-        ("room 36", "ok"),
+        ("room 46", "ok"),
         (
             "stream-box 01 0E 00 12 06 00 03 00 00 00 01 00 22 02 00 E8 03",
             "took 17 frame 12 06 00 03 00 00 00 01 00 22 02 00 E8 03: refused 1",
         ),
-        ("room 37", "ok"),
+        ("room 47", "ok"),
         ("stream-box 01 0E 00 12 06 00 03 00", "took 8"),
         // A bare frame passes the receiver by.
         ("to-box 2", "ok 13 06 00 03 00 00 00 01 00"),
@@ -207,7 +208,7 @@ fn pieces_are_judged_from_left_to_right() {
         (" 1 129 x", "number out of range"),
         (" 1 18446744073709551617", "number out of range"),
         (" 1 128 x", "too many words"),
-        (" 1 1 into 37", "too many words"),
+        (" 1 1 into 47", "too many words"),
     ] {
         for word in ["pieces-box", "pieces-office"] {
             let line = format!("{word}{arguments}");
@@ -224,11 +225,11 @@ fn pieces_are_judged_from_left_to_right() {
 #[test]
 fn room_of_0_to_512() {
     let mut simulation = Simulation::new();
-    assert_eq!(simulation.room(), 37);
+    assert_eq!(simulation.room(), 47);
     for (line, expected) in [
         ("room 512", "ok"),
         ("open 1", "ok 10 04 00 01 00 00 00"),
-        ("room 36", "ok"),
+        ("room 46", "ok"),
         ("reopen", "refused 1"),
         ("room 513", "line 5: number out of range"),
         ("reopen", "refused 1"),
@@ -335,20 +336,34 @@ fn describe_every_setting() {
             "to-box 7",
             "command A6 01 00 02 00 FF FF 00 01",
             "to-box 8",
-            "command 02 00",
+            "to-office 8",
+            "command C8 01",
             "to-box 9",
-            "to-office 9",
+            "command CA 01 02",
+            "to-box 10",
+            "command CC FF FF",
+            "to-box 11",
+            "command CE 00 80",
+            "to-box 12",
+            "command D0 07 00",
+            "to-box 13",
+            "command D2 03",
+            "to-box 14",
+            "command 02 00",
+            "to-box 15",
+            "to-office 15",
         ],
     );
     let settings = "level 35000, master off, parked, splash mode 1, drive strength 2, heater 513 kHz at 100 %, \
-                    bezel -5 and 7, test pixels (1, 2) to (65535, 256), status none";
+                    bezel -5 and 7, test pixels (1, 2) to (65535, 256), calibration mode, red level 513, \
+                    green level 65535, blue level 32768, current limit 7, sensor gain 3, status none";
     let described = answer(&mut simulation, "describe");
     let lines: Vec<&str> = described.lines().collect();
     assert_eq!(
         lines,
         [
-            format!("box session 1, 8 orders taken: {settings}"),
-            format!("office session 1, settled, 8 of 8 orders confirmed: {settings}"),
+            format!("box session 1, 14 orders taken: {settings}"),
+            format!("office session 1, settled, 14 of 14 orders confirmed: {settings}"),
         ]
     );
 
@@ -372,10 +387,10 @@ fn describe_every_setting() {
     run(
         &mut simulation,
         &[
-            "to-box 10",
-            "to-box 11",
+            "to-box 16",
+            "to-box 17",
             "command 50 FF FF 01 FF FF 00",
-            "to-office 11",
+            "to-office 17",
         ],
     );
     assert!(answer(&mut simulation, "describe").contains(" bezel 65535 and -65535, "));
@@ -397,8 +412,8 @@ fn describe_every_status_bit() {
         let mut simulation = Simulation::new();
         let status: String = status.iter().map(|byte| format!(" {byte:02X}")).collect();
         let welcome = format!(
-            "office 11 04 00 01 00 00 00 20 1B 00 00 00 01 00 00 00 00 00 00 00 00 01 00 00 01{}{status}",
-            " 00".repeat(8)
+            "office 11 04 00 01 00 00 00 20 25 00 00 00 01 00 00 00 00 00 00 00 00 01 00 00 01{}{status}",
+            " 00".repeat(18)
         );
         run(&mut simulation, &["open 1", &welcome]);
         let described = answer(&mut simulation, "describe");
@@ -460,7 +475,7 @@ fn faults_of_a_frame_with_their_offsets() {
         // The box's refusals can be carried to the office, which does nothing on them.
         ("to-office 2", "ok"),
         ("pieces-office 7 20", "took 11 frame 14 05 00 00 00 00 00 13: ok"),
-        ("room 36", "ok"),
+        ("room 46", "ok"),
         ("box", "refused 1"),
         ("office", "refused 14 at 0"),
     ] {

@@ -3,7 +3,7 @@ use Prim.Native.Nat.{ℕ, zero, suc, _+_, _*_, _/_, _%_}
 use native.Mathlib.Nat.{add-zero, mul-add-mod-self-right}
 use native.Mathlib.Omega.{arith}
 use mathlib.Core.Path.{_≡_, refl, sym, ap, _∙_, subst}
-use mathlib.Core.Bool.{Bool, true, false, cond, not, _&&_, and-true, and-false}
+use mathlib.Core.Bool.{Bool, true, false, cond, _&&_, _||_, and-true, and-false}
 use mathlib.Core.List.{List, [], _∷_, _++_, foldr}
 use mathlib.Core.Option.{Option, some, Option·some-injective, Option·none-ne-some}
 use lib.ListN.{length, getD, drop}
@@ -18,14 +18,31 @@ use borrow.Author.Tests.{eqb-true}
 use Rattle.packet.specs.declared.writer.Access.the-variants.{Write, Read}
 use Rattle.bus.specs.declared.command.CommandRow.{CommandRow}
 use Rattle.bus.specs.declared.command.Lookup.{Lookup}
+use Rattle.bus.specs.declared.command.Lookup.the-variants.{Found}
 use Rattle.bus.specs.declared.command.Performed.{Performed}
 use Rattle.settings.specs.declared.settings.Settings.{Settings}
 use Rattle.settings.specs.declared.settings.Flag.{Flag}
 use Rattle.settings.specs.declared.settings.Flag.the-variants.{NotAvailable, InvalidCommand, OutOfRange, WrongLength}
 use Rattle.settings.specs.Settings.{with-bezel, no-flags}
 use Rattle.bus.specs.declared.command.Register.{Register}
-use Rattle.bus.specs.declared.command.Register.the-variants.{Backlight, Master, Park, Splash, Strength, Heater, Bezel, Status, Pixels}
-use Rattle.bus.specs.Commands.{lookup, access, offset-bytes, offset-from, read, reply-of, failed, written, write-register, perform-offered, perform-found, perform-looked-up, perform}
+use Rattle.bus.specs.declared.command.Register.the-variants.{
+  Backlight,
+  Master,
+  Park,
+  Splash,
+  Strength,
+  Heater,
+  Bezel,
+  Status,
+  Pixels,
+  CalibrationMode,
+  RedLevel,
+  GreenLevel,
+  BlueLevel,
+  CurrentLimit,
+  SensorGain,
+}
+use Rattle.bus.specs.Commands.{command-rows, find-row, lookup, access, offset-bytes, offset-from, read, reply-of, failed, written, write-register, perform-offered, perform-found, perform-looked-up, perform}
 use Rattle.settings.specs.Range.{StatusHeld}
 use Rattle.bus.specs.AsWritten.{
   number-at,
@@ -44,6 +61,8 @@ use Rattle.bus.specs.AsWritten.{
   good-read,
   Outcome,
   outcome,
+  master-off,
+  out-of-mode,
   command,
   command-found,
 }
@@ -101,21 +120,73 @@ stored-bezel σ d =
 stored-pixels : (σ : Settings) (d : List ℕ) → written σ Pixels d ≡ stores-pixels σ d
 stored-pixels σ d = rw (number-from 2 d, number-from 4 d, number-from 6 d)
 
-read-bezel : (σ : Settings) → read σ Bezel ≡ bezel-bytes σ
+pub read-bezel : (σ : Settings) → read σ Bezel ≡ bezel-bytes σ
 read-bezel σ = λ i. offset-bytes-signed (σ .bezel .horizontal) i ++ offset-bytes-signed (σ .bezel .vertical) i
 
--- at an ID, or at those after it
-at-id : (id n : ℕ) {found later : Option Row} {l m : Lookup} → (n ≡ id → Alike id found l) → Alike id later m →
-    Alike id (cond (eqb id n) found later) (cond (eqb id n) l m)
-at-id id n {found} {later} {l} {m} here other = by-cases (eqb id n) refl
+-- when a write is available, by each mode right
+open-always : (x : Bool) → false ≡ (x && false) || false
+open-always true = refl
+open-always false = refl
+
+while-on : (x : Bool) → x ≡ (x && true) || false
+while-on true = refl
+while-on false = refl
+
+while-calibrating : (x y : Bool) → x || y ≡ (x && true) || y
+while-calibrating true y = refl
+while-calibrating false y = refl
+
+ruleset availability = (open-always, while-on, while-calibrating, and-true, and-false)
+
+-- a pair, for rows of them
+infixr 5 _&_
+pub _&_ : {A B : Type 0} → A → B → A × B
+a & b = (a, b)
+
+-- both tables, row by row
+abbrev Rows : List Row → List CommandRow → Type 0
+Rows [] [] = Unit {0}
+Rows [] (row ∷ rows) = ⊥
+Rows (paper ∷ papers) [] = ⊥
+Rows (paper ∷ papers) (row ∷ rows) = Described paper row × Rows papers rows
+
+rows-described : Rows table command-rows
+unfolding table
+rows-described =
+    search availability
+    & search availability
+    & search availability
+    & search availability
+    & search availability
+    & search availability
+    & search (availability, stored-bezel, read-bezel)
+    & search availability
+    & search (availability, stored-pixels)
+    & search availability
+    & search availability
+    & search availability
+    & search availability
+    & search availability
+    & search availability
+    & tt
+
+-- the row found in both is the same one
+found-alike : (id : ℕ) (papers : List Row) (rows : List CommandRow) → Rows papers rows → Alike id (find id papers) (find-row id rows)
+unfolding find
+found-alike id [] [] told = unknown
+found-alike id (paper ∷ papers) (row ∷ rows) told = at-id (eqb id (paper .id)) refl (found-alike id papers rows (told .1))
   where
-    by-cases : (x : Bool) → eqb id n ≡ x → Alike id (cond x found later) (cond x l m)
-    by-cases true e = here (sym (eqb-true id n e))
-    by-cases false e = other
+    by-row : {x : Bool} → eqb id (paper .id) ≡ x → eqb id (row .id) ≡ x
+    by-row e = ap (eqb id) (told .0 .named) ∙ e
+
+    at-id : (x : Bool) → eqb id (paper .id) ≡ x → Alike id (find id papers) (find-row id rows) →
+        Alike id (cond x (some paper) (find id papers)) (cond (eqb id (row .id)) (Found row) (find-row id rows))
+    at-id true e later = rw (by-row e) (known paper row (sym (eqb-true _ _ e)) (told .0))
+    at-id false e later = rw (by-row e) later
 
 pub table-alike : TableAlike
-unfolding lookup find table
-table-alike id = search (at-id, known, unknown, and-true, and-false, stored-bezel, stored-pixels, read-bezel) depth 20
+unfolding lookup
+table-alike id = found-alike id table command-rows rows-described
 
 pub read-counted : ReadCounted
 read-counted id paper found σ = counted (table-alike id) found
@@ -148,25 +219,37 @@ written-status σ Heater d = refl
 written-status σ Bezel d = refl
 written-status σ Status d = refl
 written-status σ Pixels d = refl
+written-status σ CalibrationMode d = refl
+written-status σ RedLevel d = refl
+written-status σ GreenLevel d = refl
+written-status σ BlueLevel d = refl
+written-status σ CurrentLimit d = refl
+written-status σ SensorGain d = refl
 
 module _ (σ : Settings) (fits : StatusFits σ) where
   -- a failure sets its bit and answers its code
   pub failed-same : (flag : Flag) (code : ℕ) → Same (outcome (marked flag σ) (code ∷ [])) (failed σ flag code)
   failed-same flag code = record { settled = sym (marked-alike σ fits flag .0); replied = refl; fitting = marked-alike σ fits flag .1 }
 
+  -- two tests with one answer, made one after the other or at once
+  either-both : (x y : Bool) {o q : Outcome} {p r : Performed} → Same o p → Same q r → Same (cond x o (cond y o q)) (cond (x || y) p r)
+  either-both true y h g = h
+  either-both false true h g = h
+  either-both false false h g = g
+
   -- the same checks in the same order
   row-same : (paper : Row) (row : CommandRow) → Described paper row → (is-read : Bool) (d : List ℕ) →
       Same (command σ paper is-read d) (perform-found σ row (cond is-read Read Write) d)
   unfolding command perform-found perform-offered write-register
   row-same paper row told true d =
-      rw (told .available σ, told .named, ← (told .read-as σ), ← (success-good-read (read σ (row .register))))
-      (if-both Same (eqb (σ .switches .master) 0 && not (eqb (paper .id) 0x01)) (failed-same NotAvailable 0x04)
+      rw (told .read-available σ, told .named, ← (told .read-as σ), ← (success-good-read (read σ (row .register))))
+      (if-both Same (master-off σ (paper .id)) (failed-same NotAvailable 0x04)
       (unless-both Same (eqb (length d) 0) (failed-same WrongLength 0x05)
       (record { settled = refl; replied = refl; fitting = cond-cases StatusFits (eqb (paper .id) 0x33) _ _ (λ e. no-flags-fit) (λ e. fits) })))
   row-same paper row told false d =
-      rw (told .writes, told .available σ, told .write-length, told .limited d, ← (told .stored σ d))
+      rw (told .writes, told .write-available σ, told .write-length, told .limited d, ← (told .stored σ d))
       (unless-both Same (paper .writable) (failed-same InvalidCommand 0x03)
-      (if-both Same (eqb (σ .switches .master) 0 && not (eqb (paper .id) 0x01)) (failed-same NotAvailable 0x04)
+      (either-both (master-off σ (paper .id)) (out-of-mode σ (paper .id)) (failed-same NotAvailable 0x04)
       (unless-both Same (eqb (length d) (paper .count)) (failed-same WrongLength 0x05)
       (unless-both Same (paper .accepted d) (failed-same OutOfRange 0x07)
       (record { settled = refl; replied = refl; fitting = subst StatusHeld (sym (written-status σ (row .register) d)) fits })))))

@@ -15,7 +15,6 @@ use Rattle.packet.specs.declared.writer.Access.the-variants.{Write, Read}
 use Rattle.bus.specs.declared.Phase.{Phase}
 use Rattle.bus.specs.declared.Phase.the-variants.{Idle, Command, Length, Data, Checksum}
 use Rattle.bus.specs.declared.Controller.{Controller}
-use Rattle.bus.specs.declared.command.Register.{Register}
 use Rattle.bus.specs.declared.command.Register.the-variants.{Bezel}
 use Rattle.bus.specs.declared.command.Ways.the-variants.{ReadWrite}
 use Rattle.bus.specs.declared.command.ModeRight.the-variants.{MasterOn}
@@ -78,7 +77,7 @@ module _ (σ : Settings) (k : ℕ) (d : List ℕ) where
   unfolding perform-found perform-offered
   found-outcome row way known =
       cond-cases Comes (offers row way) _ _
-      (λ o. cond-cases Comes (locked σ row) _ _ (λ l. not-available known o l)
+      (λ o. cond-cases Comes (locked σ row way) _ _ (λ l. not-available known o l)
       (λ l. let available : Available σ k row way = record { known = known; offered = o; unlocked = l } in
       cond-cases Comes (eqb (length d) (request-length row way)) _ _ (λ e. execute-outcome row way (record { available = available; whole = eqb-true _ _ e }))
       (λ e. wrong-length available (eqb-false _ _ e))))
@@ -124,7 +123,7 @@ signs-judged σ h-low h-high h-sign v-low v-high v-sign on =
 
 -- what flags, accepted writes and clearing keep, every command keeps
 pub command-keeps : (P : Settings → Type 0) (σ : Settings) (k : ℕ) (d : List ℕ) → P σ → P (cleared σ) → ((flag : Flag) → P (flagged σ flag)) →
-    ((r : Register) → accepts r d ≡ true → P (written σ r d)) → P (perform σ k d .settings)
+    ((row : CommandRow) → Requested σ k d row Write → accepts (row .register) d ≡ true → P (written σ (row .register) d)) → P (perform σ k d .settings)
 command-keeps P σ k d same none-set flag-set register-written = by-cases (perform-outcome σ k d)
   where
     by-cases : {end : Performed} → CommandEffect σ k d end → P (end .settings)
@@ -133,7 +132,7 @@ command-keeps P σ k d same none-set flag-set register-written = by-cases (perfo
     by-cases (not-available _ _ _) = flag-set NotAvailable
     by-cases (wrong-length _ _) = flag-set WrongLength
     by-cases (out-of-range _ _) = flag-set OutOfRange
-    by-cases (was-written {row} _ fits) = register-written (row .register) fits
+    by-cases (was-written {row} passed fits) = register-written row passed fits
     by-cases (was-read {row} _) = cond-cases P (eqb (row .id) 0x33) _ _ (λ _. none-set) (λ _. same)
 
 -- ---- one exchange

@@ -8,7 +8,23 @@ use lib.IntN.{natAbs}
 use borrow.Author.Tests.{leb-true}
 use Rattle.base.proofs.Tests.{cond-cases}
 use Rattle.bus.specs.declared.command.Register.{Register}
-use Rattle.bus.specs.declared.command.Register.the-variants.{Backlight, Master, Park, Splash, Strength, Heater, Bezel, Status, Pixels}
+use Rattle.bus.specs.declared.command.Register.the-variants.{
+  Backlight,
+  Master,
+  Park,
+  Splash,
+  Strength,
+  Heater,
+  Bezel,
+  Status,
+  Pixels,
+  CalibrationMode,
+  RedLevel,
+  GreenLevel,
+  BlueLevel,
+  CurrentLimit,
+  SensorGain,
+}
 use Rattle.settings.specs.declared.settings.Settings.{Settings}
 use Rattle.settings.specs.declared.settings.Flag.the-variants.{EscapeSeen}
 use Rattle.settings.specs.Range.{OffsetsHeld, AreaHeld, Held}
@@ -54,9 +70,15 @@ written-held σ Heater d fits bytes h = search (le16-below, leb-true)
 written-held σ Bezel d fits bytes h = search bezel-from-held
 written-held σ Status d fits bytes h = h
 written-held σ Pixels d fits bytes h = search area-from-held
+written-held σ CalibrationMode d fits bytes h = search leb-true
+written-held σ RedLevel d fits bytes h = search le16-below
+written-held σ GreenLevel d fits bytes h = search le16-below
+written-held σ BlueLevel d fits bytes h = search le16-below
+written-held σ CurrentLimit d fits bytes h = search le16-below
+written-held σ SensorGain d fits bytes h = search leb-true
 
 pub perform-held : PerformHeld
-perform-held σ k d bytes h = command-keeps Held σ k d h (cleared-held σ h) (λ flag. flagged-held σ flag h) (λ r fits. written-held σ r d fits bytes h)
+perform-held σ k d bytes h = command-keeps Held σ k d h (cleared-held σ h) (λ flag. flagged-held σ flag h) (λ row _ fits. written-held σ (row .register) d fits bytes h)
 
 pub noted-held : (σ : Settings) (bytes : List ℕ) → Held σ → Held (noted σ bytes)
 noted-held σ bytes h = cond-cases Held (has-escape bytes) _ _ (λ e. flagged-held σ EscapeSeen h) (λ e. h)

@@ -1,4 +1,5 @@
 pub mod Agreement
+pub mod Calibration
 pub mod CommandTable
 pub mod Effect
 pub mod Examples

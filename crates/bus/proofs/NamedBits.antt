@@ -85,7 +85,7 @@ abbrev SafeIn : Settings → Type 0
 SafeIn σ = Safe (σ .status)
 
 performed-safe : (σ : Settings) (k : ℕ) (d : List ℕ) → SafeIn σ → SafeIn (perform σ k d .settings)
-performed-safe σ k d safe = command-keeps SafeIn σ k d safe none-safe (flagged-safe σ safe) (λ r _. subst Safe (sym (written-status σ r d)) safe)
+performed-safe σ k d safe = command-keeps SafeIn σ k d safe none-safe (flagged-safe σ safe) (λ row _ _. subst Safe (sym (written-status σ (row .register) d)) safe)
 
 run-safe : (bs : List ℕ) (c : Controller) → SafeIn (c .settings) → SafeIn (run c bs .settings)
 unfolding run

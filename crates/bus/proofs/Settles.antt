@@ -20,7 +20,23 @@ use Rattle.bus.specs.declared.command.Lookup.{Lookup}
 use Rattle.bus.specs.declared.command.Lookup.the-variants.{Found, Unknown}
 use Rattle.bus.specs.declared.command.Performed.{Performed}
 use Rattle.bus.specs.declared.command.Register.{Register}
-use Rattle.bus.specs.declared.command.Register.the-variants.{Backlight, Master, Park, Splash, Strength, Heater, Bezel, Status, Pixels}
+use Rattle.bus.specs.declared.command.Register.the-variants.{
+  Backlight,
+  Master,
+  Park,
+  Splash,
+  Strength,
+  Heater,
+  Bezel,
+  Status,
+  Pixels,
+  CalibrationMode,
+  RedLevel,
+  GreenLevel,
+  BlueLevel,
+  CurrentLimit,
+  SensorGain,
+}
 use Rattle.settings.specs.declared.settings.Settings.{Settings}
 use Rattle.bus.specs.Commands.{
   lookup,
@@ -72,6 +88,12 @@ read-short σ Heater = omega arith
 read-short σ Bezel = omega arith
 read-short σ Status = omega arith
 read-short σ Pixels = omega arith
+read-short σ CalibrationMode = omega arith
+read-short σ RedLevel = omega arith
+read-short σ GreenLevel = omega arith
+read-short σ BlueLevel = omega arith
+read-short σ CurrentLimit = omega arith
+read-short σ SensorGain = omega arith
 
 success-length : (bytes : List ℕ) → length (success bytes) ≡ length bytes + 3
 unfolding success
@@ -90,7 +112,7 @@ looked-up-replying Unknown σ k d = one-byte 0x03
 looked-up-replying (Found row) σ k d =
     let way = access-of k in
     either (offers row way)
-    (either (locked σ row) (one-byte 0x04) (either (eqb (length d) (request-length row way)) (execute-replying σ row way d) (one-byte 0x05)))
+    (either (locked σ row way) (one-byte 0x04) (either (eqb (length d) (request-length row way)) (execute-replying σ row way d) (one-byte 0x05)))
     (one-byte 0x03)
 
 replying : (σ : Settings) (k : ℕ) (d : List ℕ) → Replying (perform σ k d)

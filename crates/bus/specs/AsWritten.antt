@@ -1,6 +1,6 @@
--- The controller once more, told as document 01 tells it: the open packet is the list of its bytes, the checks are made on that
--- list when it is whole, and the registers are a table. With the definitions that the code follows it shares only the record of
--- the settings. `Agrees` in BusTheorems.antt says that both answer every list of bytes alike.
+-- The controller once more, told as document 01 and, from 64h on, document 02's Ask 6 tell it: the open packet is the list of its
+-- bytes, the checks are made on that list when it is whole, and the registers are a table. With the definitions that the code follows
+-- it shares only the record of the settings. `Agrees` in BusTheorems.antt says that both answer every list of bytes alike.
 use Prim.Native.Nat.{ℕ, zero, suc, _+_, _*_, _/_, _%_, _^_}
 use mathlib.Core.Bool.{Bool, true, false, cond, not, _&&_}
 use mathlib.Core.List.{List, [], _∷_, _++_, foldr}
@@ -13,27 +13,36 @@ use Rattle.settings.specs.declared.settings.Switches.{Switches}
 use Rattle.settings.specs.declared.settings.HeaterDrive.{HeaterDrive}
 use Rattle.settings.specs.declared.settings.Offsets.{Offsets}
 use Rattle.settings.specs.declared.settings.Area.{Area}
+use Rattle.settings.specs.declared.settings.Calibration.{Calibration}
 use Rattle.settings.specs.declared.settings.StatusBytes.{StatusBytes}
 
 -- ---- the settings by register
 
-abbrev pub settings-of : ℕ → Switches → HeaterDrive → Offsets → Area → StatusBytes → Settings
-settings-of l w h o a s = record { backlight = l; switches = w; heater = h; bezel = o; pixels = a; status = s }
+abbrev pub settings-of : ℕ → Switches → HeaterDrive → Offsets → Area → Calibration → StatusBytes → Settings
+settings-of l w h o a c s = record { backlight = l; switches = w; heater = h; bezel = o; pixels = a; calibration = c; status = s }
 
 abbrev pub switches-of : ℕ → ℕ → ℕ → ℕ → Switches
 switches-of master park splash strength = record { master = master; park = park; splash = splash; strength = strength }
 
+abbrev pub calibration-of : ℕ → ℕ → ℕ → ℕ → ℕ → ℕ → Calibration
+calibration-of mode red green blue limit gain = record { mode = mode; red = red; green = green; blue = blue; limit = limit; gain = gain }
+
 abbrev pub with-switches : Settings → Switches → Settings
-with-switches σ w = settings-of (σ .backlight) w (σ .heater) (σ .bezel) (σ .pixels) (σ .status)
+with-switches σ w = settings-of (σ .backlight) w (σ .heater) (σ .bezel) (σ .pixels) (σ .calibration) (σ .status)
+
+abbrev pub with-calibration : Settings → Calibration → Settings
+with-calibration σ c = settings-of (σ .backlight) (σ .switches) (σ .heater) (σ .bezel) (σ .pixels) c (σ .status)
 
 abbrev pub with-status : Settings → ℕ → ℕ → ℕ → ℕ → Settings
-with-status σ a b c d = settings-of (σ .backlight) (σ .switches) (σ .heater) (σ .bezel) (σ .pixels) (record { first = a; second = b; third = c; fourth = d })
+with-status σ a b c d =
+    settings-of (σ .backlight) (σ .switches) (σ .heater) (σ .bezel) (σ .pixels) (σ .calibration)
+    (record { first = a; second = b; third = c; fourth = d })
 
 -- master on, all else 0
 abbrev pub fresh : Settings
 fresh =
     settings-of 0 (switches-of 1 0 0 0) (record { khz = 0; duty = 0 }) (record { horizontal = pos 0; vertical = pos 0 })
-    (record { x0 = 0; y0 = 0; x1 = 0; y1 = 0 }) (record { first = 0; second = 0; third = 0; fourth = 0 })
+    (record { x0 = 0; y0 = 0; x1 = 0; y1 = 0 }) (calibration-of 0 0 0 0 0 0) (record { first = 0; second = 0; third = 0; fourth = 0 })
 
 -- ---- status bits, by their numbers
 
@@ -115,7 +124,7 @@ abbrev pub signs-up-to : ℕ → List ℕ → Bool
 signs-up-to most d = leb (getD d 2 0) most && leb (getD d 5 0) most
 
 abbrev pub stores-backlight : Settings → List ℕ → Settings
-stores-backlight σ d = settings-of (number-at 0 d) (σ .switches) (σ .heater) (σ .bezel) (σ .pixels) (σ .status)
+stores-backlight σ d = settings-of (number-at 0 d) (σ .switches) (σ .heater) (σ .bezel) (σ .pixels) (σ .calibration) (σ .status)
 
 abbrev pub stores-master : Settings → List ℕ → Settings
 stores-master σ d = with-switches σ (switches-of (getD d 0 0) (σ .switches .park) (σ .switches .splash) (σ .switches .strength))
@@ -130,11 +139,11 @@ abbrev pub stores-strength : Settings → List ℕ → Settings
 stores-strength σ d = with-switches σ (switches-of (σ .switches .master) (σ .switches .park) (σ .switches .splash) (getD d 0 0))
 
 abbrev pub stores-heater : Settings → List ℕ → Settings
-stores-heater σ d = settings-of (σ .backlight) (σ .switches) (record { khz = number-at 0 d; duty = getD d 2 0 }) (σ .bezel) (σ .pixels) (σ .status)
+stores-heater σ d = settings-of (σ .backlight) (σ .switches) (record { khz = number-at 0 d; duty = getD d 2 0 }) (σ .bezel) (σ .pixels) (σ .calibration) (σ .status)
 
 abbrev pub stores-bezel : Settings → List ℕ → Settings
 stores-bezel σ d =
-    settings-of (σ .backlight) (σ .switches) (σ .heater) (record { horizontal = signed-at 0 d; vertical = signed-at 3 d }) (σ .pixels) (σ .status)
+    settings-of (σ .backlight) (σ .switches) (σ .heater) (record { horizontal = signed-at 0 d; vertical = signed-at 3 d }) (σ .pixels) (σ .calibration) (σ .status)
 
 abbrev pub stores-nothing : Settings → List ℕ → Settings
 stores-nothing σ d = σ
@@ -142,7 +151,26 @@ stores-nothing σ d = σ
 abbrev pub stores-pixels : Settings → List ℕ → Settings
 stores-pixels σ d =
     settings-of (σ .backlight) (σ .switches) (σ .heater) (σ .bezel)
-    (record { x0 = number-at 0 d; y0 = number-at 2 d; x1 = number-at 4 d; y1 = number-at 6 d }) (σ .status)
+    (record { x0 = number-at 0 d; y0 = number-at 2 d; x1 = number-at 4 d; y1 = number-at 6 d }) (σ .calibration) (σ .status)
+
+-- document 02, Ask 6
+abbrev pub stores-mode : Settings → List ℕ → Settings
+stores-mode σ d = let c = σ .calibration in with-calibration σ (calibration-of (getD d 0 0) (c .red) (c .green) (c .blue) (c .limit) (c .gain))
+
+abbrev pub stores-red : Settings → List ℕ → Settings
+stores-red σ d = let c = σ .calibration in with-calibration σ (calibration-of (c .mode) (number-at 0 d) (c .green) (c .blue) (c .limit) (c .gain))
+
+abbrev pub stores-green : Settings → List ℕ → Settings
+stores-green σ d = let c = σ .calibration in with-calibration σ (calibration-of (c .mode) (c .red) (number-at 0 d) (c .blue) (c .limit) (c .gain))
+
+abbrev pub stores-blue : Settings → List ℕ → Settings
+stores-blue σ d = let c = σ .calibration in with-calibration σ (calibration-of (c .mode) (c .red) (c .green) (number-at 0 d) (c .limit) (c .gain))
+
+abbrev pub stores-limit : Settings → List ℕ → Settings
+stores-limit σ d = let c = σ .calibration in with-calibration σ (calibration-of (c .mode) (c .red) (c .green) (c .blue) (number-at 0 d) (c .gain))
+
+abbrev pub stores-gain : Settings → List ℕ → Settings
+stores-gain σ d = let c = σ .calibration in with-calibration σ (calibration-of (c .mode) (c .red) (c .green) (c .blue) (c .limit) (getD d 0 0))
 
 abbrev pub backlight-bytes : Settings → List ℕ
 backlight-bytes σ = two-bytes (σ .backlight)
@@ -172,6 +200,25 @@ status-bytes σ = σ .status .first ∷ σ .status .second ∷ σ .status .third
 abbrev pub pixels-bytes : Settings → List ℕ
 pixels-bytes σ = two-bytes (σ .pixels .x0) ++ two-bytes (σ .pixels .y0) ++ two-bytes (σ .pixels .x1) ++ two-bytes (σ .pixels .y1)
 
+-- document 02, Ask 6
+abbrev pub mode-byte : Settings → List ℕ
+mode-byte σ = σ .calibration .mode ∷ []
+
+abbrev pub red-bytes : Settings → List ℕ
+red-bytes σ = two-bytes (σ .calibration .red)
+
+abbrev pub green-bytes : Settings → List ℕ
+green-bytes σ = two-bytes (σ .calibration .green)
+
+abbrev pub blue-bytes : Settings → List ℕ
+blue-bytes σ = two-bytes (σ .calibration .blue)
+
+abbrev pub limit-bytes : Settings → List ℕ
+limit-bytes σ = two-bytes (σ .calibration .limit)
+
+abbrev pub gain-byte : Settings → List ℕ
+gain-byte σ = σ .calibration .gain ∷ []
+
 pub record Row : Type 0 where
   pub id : ℕ
   pub writable : Bool
@@ -195,6 +242,12 @@ table =
     ∷ row 0x28 true 6 (signs-up-to 1) stores-bezel bezel-bytes
     ∷ row 0x33 false 4 any stores-nothing status-bytes
     ∷ row 0x53 true 8 any stores-pixels pixels-bytes
+    ∷ row 0x64 true 1 (up-to 1) stores-mode mode-byte
+    ∷ row 0x65 true 2 any stores-red red-bytes
+    ∷ row 0x66 true 2 any stores-green green-bytes
+    ∷ row 0x67 true 2 any stores-blue blue-bytes
+    ∷ row 0x68 true 2 any stores-limit limit-bytes
+    ∷ row 0x69 true 1 (up-to 3) stores-gain gain-byte
     ∷ []
 
 unfoldable pub find : ℕ → List Row → Option Row
@@ -222,16 +275,25 @@ good-read d = (0x01 ∷ length d ∷ d) ++ sum (0x01 ∷ length d ∷ d) ∷ []
 abbrev pub clears : ℕ → Settings → Settings
 clears id σ = cond (eqb id 0x33) (with-status σ 0 0 0 0) σ
 
+-- the third check: master is off and the ID is not 01h
+abbrev pub master-off : Settings → ℕ → Bool
+master-off σ id = eqb (σ .switches .master) 0 && not (eqb id 0x01)
+
+-- and with it, for writes: 65h to 69h outside calibration mode
+abbrev pub out-of-mode : Settings → ℕ → Bool
+out-of-mode σ id = leb 0x65 id && leb id 0x69 && eqb (σ .calibration .mode) 0
+
 -- a command byte is a write of its register or, where it is odd, a read
 unfoldable pub command : Settings → Row → Bool → List ℕ → Outcome
 command σ r false d =
     cond (not (r .writable)) (outcome (invalid-command σ) (0x03 ∷ []))
-    (cond (eqb (σ .switches .master) 0 && not (eqb (r .id) 0x01)) (outcome (not-available σ) (0x04 ∷ []))
+    (cond (master-off σ (r .id)) (outcome (not-available σ) (0x04 ∷ []))
+    (cond (out-of-mode σ (r .id)) (outcome (not-available σ) (0x04 ∷ []))
     (cond (not (eqb (length d) (r .count))) (outcome (wrong-length σ) (0x05 ∷ []))
     (cond (not (r .accepted d)) (outcome (out-of-range σ) (0x07 ∷ []))
-    (outcome (r .stores σ d) (0x01 ∷ [])))))
+    (outcome (r .stores σ d) (0x01 ∷ []))))))
 command σ r true d =
-    cond (eqb (σ .switches .master) 0 && not (eqb (r .id) 0x01)) (outcome (not-available σ) (0x04 ∷ []))
+    cond (master-off σ (r .id)) (outcome (not-available σ) (0x04 ∷ []))
     (cond (not (eqb (length d) 0)) (outcome (wrong-length σ) (0x05 ∷ []))
     (outcome (clears (r .id) σ) (good-read (r .reads σ))))
 

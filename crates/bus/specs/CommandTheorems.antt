@@ -1,7 +1,7 @@
 -- What is proved of a command that is performed.
 use Prim.Native.Nat.{ℕ, _/_, _%_, _≤_, _<_}
 use mathlib.Core.Path.{_≡_}
-use mathlib.Core.Bool.{true, false, not, _&&_}
+use mathlib.Core.Bool.{true, false, _||_}
 use mathlib.Core.List.{List, [], _∷_}
 use mathlib.Core.Option.{Option, none, some}
 use mathlib.Core.Logic.{_⊎_}
@@ -20,17 +20,18 @@ use Rattle.bus.specs.declared.command.Lookup.{Lookup}
 use Rattle.bus.specs.declared.command.Lookup.the-variants.{Found, Unknown}
 use Rattle.bus.specs.declared.command.Performed.{Performed}
 use Rattle.bus.specs.Commands.{lookup, access, offers, request-length, accepts, read, written, reply-of, failed, read-register, locked, perform}
-use Rattle.bus.specs.AsWritten.{Row, table, find, command-found}
+use Rattle.bus.specs.AsWritten.{Row, table, find, master-off, out-of-mode, command-found}
 
 -- ---- the registers as the paper's table has them
 
--- a row of the paper's table says what a row of Commands.antt and the rules for its register say: its ID, its ways, when it is available, its two
+-- a row of the paper's table says what a row of Commands.antt and the rules for its register say: its ID, its ways, when each is available, its two
 -- lengths, its range, what it stores and what it reads as
 pub record Described (paper : Row) (row : CommandRow) : Type 0 where
   pub named : row .id ≡ paper .id
   pub writes : offers row Write ≡ paper .writable
   pub reads : offers row Read ≡ true
-  pub available : (σ : Settings) → locked σ row ≡ eqb (σ .switches .master) 0 && not (eqb (paper .id) 0x01)
+  pub write-available : (σ : Settings) → locked σ row Write ≡ master-off σ (paper .id) || out-of-mode σ (paper .id)
+  pub read-available : (σ : Settings) → locked σ row Read ≡ master-off σ (paper .id)
   pub write-length : request-length row Write ≡ paper .count
   pub read-length : request-length row Read ≡ 0
   pub limited : (d : List ℕ) → accepts (row .register) d ≡ paper .accepted d
@@ -69,11 +70,11 @@ pub record Known (k : ℕ) (row : CommandRow) (way : Access) : Type 0 where
   pub found : lookup (k / 2) ≡ Found row
   pub asked : access k ≡ way
 
--- the way is offered, and master does not lock the register: 01's checks 2 and 3 are passed
+-- the way is offered, and neither master nor the calibration mode locks the register: 01's checks 2 and 3 are passed
 pub record Available (σ : Settings) (k : ℕ) (row : CommandRow) (way : Access) : Type 0 where
   pub known : Known k row way
   pub offered : offers row way ≡ true
-  pub unlocked : locked σ row ≡ false
+  pub unlocked : locked σ row way ≡ false
 
 -- so is check 4: the length is right, which for a read is 0
 pub record Requested (σ : Settings) (k : ℕ) (d : List ℕ) (row : CommandRow) (way : Access) : Type 0 where
@@ -88,7 +89,7 @@ write-performed σ r d = record { settings = written σ r d; reply = reply-of (0
 pub data CommandEffect (σ : Settings) (k : ℕ) (d : List ℕ) : Performed → Type 0 where
   unknown-id : lookup (k / 2) ≡ Unknown → CommandEffect σ k d (failed σ InvalidCommand 0x03)
   no-such-way : {row : CommandRow} {way : Access} → Known k row way → offers row way ≡ false → CommandEffect σ k d (failed σ InvalidCommand 0x03)
-  not-available : {row : CommandRow} {way : Access} → Known k row way → offers row way ≡ true → locked σ row ≡ true → CommandEffect σ k d (failed σ NotAvailable 0x04)
+  not-available : {row : CommandRow} {way : Access} → Known k row way → offers row way ≡ true → locked σ row way ≡ true → CommandEffect σ k d (failed σ NotAvailable 0x04)
   wrong-length : {row : CommandRow} {way : Access} → Available σ k row way → (length d ≡ request-length row way → ⊥) → CommandEffect σ k d (failed σ WrongLength 0x05)
   out-of-range : {row : CommandRow} → Requested σ k d row Write → accepts (row .register) d ≡ false → CommandEffect σ k d (failed σ OutOfRange 0x07)
   was-written : {row : CommandRow} → Requested σ k d row Write → accepts (row .register) d ≡ true → CommandEffect σ k d (write-performed σ (row .register) d)

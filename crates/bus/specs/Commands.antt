@@ -1,7 +1,7 @@
--- The registers and their commands: document 01, "The registers and their commands".
+-- The registers and their commands: document 01, "The registers and their commands"; document 02, Ask 6.
 use Prim.Native.Nat.{ℕ, _/_, _%_}
 use lib.IntN.{ℤ}
-use mathlib.Core.Bool.{Bool, true, false, cond, _&&_}
+use mathlib.Core.Bool.{Bool, true, false, cond, _&&_, _||_}
 use mathlib.Core.List.{List, [], _∷_, _++_}
 use lib.ListN.{length, getD, drop, replicate}
 use lib.Dec.{eqb, leb}
@@ -22,11 +22,17 @@ use Rattle.bus.specs.declared.command.Register.the-variants.{
   Bezel,
   Status,
   Pixels,
+  CalibrationMode,
+  RedLevel,
+  GreenLevel,
+  BlueLevel,
+  CurrentLimit,
+  SensorGain,
 }
 use Rattle.bus.specs.declared.command.Ways.{Ways}
 use Rattle.bus.specs.declared.command.Ways.the-variants.{ReadWrite, ReadOnly}
 use Rattle.bus.specs.declared.command.ModeRight.{ModeRight}
-use Rattle.bus.specs.declared.command.ModeRight.the-variants.{Always, MasterOn}
+use Rattle.bus.specs.declared.command.ModeRight.the-variants.{Always, MasterOn, CalibrationOnly}
 use Rattle.bus.specs.declared.command.CommandRow.{CommandRow}
 use Rattle.bus.specs.declared.command.Lookup.{Lookup}
 use Rattle.bus.specs.declared.command.Lookup.the-variants.{Found, Unknown}
@@ -37,6 +43,7 @@ use Rattle.settings.specs.declared.settings.Switches.{Switches}
 use Rattle.settings.specs.declared.settings.HeaterDrive.{HeaterDrive}
 use Rattle.settings.specs.declared.settings.Offsets.{Offsets}
 use Rattle.settings.specs.declared.settings.Area.{Area}
+use Rattle.settings.specs.declared.settings.Calibration.{Calibration}
 use Rattle.settings.specs.declared.settings.StatusBytes.{StatusBytes}
 use Rattle.settings.specs.declared.settings.Flag.{Flag}
 use Rattle.settings.specs.declared.settings.Flag.the-variants.{NotAvailable, InvalidCommand, OutOfRange, WrongLength}
@@ -46,14 +53,21 @@ use Rattle.settings.specs.Settings.{
   with-heater,
   with-bezel,
   with-pixels,
+  with-calibration,
   with-master,
   with-park,
   with-splash,
   with-strength,
+  with-mode,
+  with-red,
+  with-green,
+  with-blue,
+  with-limit,
+  with-gain,
   flagged,
   cleared,
 }
-use Rattle.settings.specs.Range.{switch-limit, strength-limit, duty-limit, sign-limit}
+use Rattle.settings.specs.Range.{switch-limit, strength-limit, duty-limit, sign-limit, gain-limit}
 
 -- ---- the command table
 
@@ -72,6 +86,12 @@ command-rows =
     ∷ command-row 0x28 Bezel ReadWrite 6 MasterOn
     ∷ command-row 0x33 Status ReadOnly 4 MasterOn
     ∷ command-row 0x53 Pixels ReadWrite 8 MasterOn
+    ∷ command-row 0x64 CalibrationMode ReadWrite 1 MasterOn
+    ∷ command-row 0x65 RedLevel ReadWrite 2 CalibrationOnly
+    ∷ command-row 0x66 GreenLevel ReadWrite 2 CalibrationOnly
+    ∷ command-row 0x67 BlueLevel ReadWrite 2 CalibrationOnly
+    ∷ command-row 0x68 CurrentLimit ReadWrite 2 CalibrationOnly
+    ∷ command-row 0x69 SensorGain ReadWrite 1 CalibrationOnly
     ∷ []
 
 abbrev pub find-row : ℕ → List CommandRow → Lookup
@@ -101,13 +121,15 @@ abbrev pub request-length : CommandRow → Access → ℕ
 request-length row Write = row .count
 request-length row Read = 0
 
--- whether a mode right denies a command, by what master holds
-abbrev pub denies : ModeRight → ℕ → Bool
-denies Always master = false
-denies MasterOn master = eqb master 0
+-- whether a mode right denies a way of access, by what master and the calibration mode hold
+abbrev pub denies : ModeRight → Access → ℕ → ℕ → Bool
+denies Always way master mode = false
+denies MasterOn way master mode = eqb master 0
+denies CalibrationOnly Write master mode = eqb master 0 || eqb mode 0
+denies CalibrationOnly Read master mode = eqb master 0
 
-abbrev pub locked : Settings → CommandRow → Bool
-locked σ row = denies (row .right) (σ .switches .master)
+abbrev pub locked : Settings → CommandRow → Access → Bool
+locked σ row way = denies (row .right) way (σ .switches .master) (σ .calibration .mode)
 
 -- ---- which data a write accepts
 
@@ -128,6 +150,12 @@ accepts Heater d = at-most d 2 duty-limit
 accepts Bezel d = signs-accepted d
 accepts Status d = true
 accepts Pixels d = true
+accepts CalibrationMode d = at-most d 0 switch-limit
+accepts RedLevel d = true
+accepts GreenLevel d = true
+accepts BlueLevel d = true
+accepts CurrentLimit d = true
+accepts SensorGain d = at-most d 0 gain-limit
 
 -- ---- what a read gives
 
@@ -146,11 +174,16 @@ offset-bytes z = le16-bytes (magnitude z) ++ sign z ∷ []
 abbrev pub bezel-bytes : Offsets → List ℕ
 bezel-bytes o = offset-bytes (o .horizontal) ++ offset-bytes (o .vertical)
 
-abbrev pub point-bytes : ℕ → ℕ → List ℕ
-point-bytes x y = le16-bytes x ++ le16-bytes y
+-- two numbers of two bytes
+abbrev pub pair-bytes : ℕ → ℕ → List ℕ
+pair-bytes x y = le16-bytes x ++ le16-bytes y
 
 abbrev pub area-bytes : Area → List ℕ
-area-bytes a = point-bytes (a .x0) (a .y0) ++ point-bytes (a .x1) (a .y1)
+area-bytes a = pair-bytes (a .x0) (a .y0) ++ pair-bytes (a .x1) (a .y1)
+
+-- the six calibration registers in ID order
+abbrev pub calibration-bytes : Calibration → List ℕ
+calibration-bytes c = c .mode ∷ pair-bytes (c .red) (c .green) ++ pair-bytes (c .blue) (c .limit) ++ c .gain ∷ []
 
 abbrev pub status-bytes : StatusBytes → List ℕ
 status-bytes s = s .first ∷ s .second ∷ s .third ∷ s .fourth ∷ []
@@ -165,6 +198,12 @@ read σ Heater = heater-bytes (σ .heater)
 read σ Bezel = bezel-bytes (σ .bezel)
 read σ Status = status-bytes (σ .status)
 read σ Pixels = area-bytes (σ .pixels)
+read σ CalibrationMode = σ .calibration .mode ∷ []
+read σ RedLevel = le16-bytes (σ .calibration .red)
+read σ GreenLevel = le16-bytes (σ .calibration .green)
+read σ BlueLevel = le16-bytes (σ .calibration .blue)
+read σ CurrentLimit = le16-bytes (σ .calibration .limit)
+read σ SensorGain = σ .calibration .gain ∷ []
 
 -- ---- what a write does
 
@@ -183,6 +222,14 @@ bezel-from d = record { horizontal = offset-from d; vertical = offset-from (drop
 abbrev pub area-from : List ℕ → Area
 area-from d = record { x0 = le16 d; y0 = le16 (drop 2 d); x1 = le16 (drop 4 d); y1 = le16 (drop 6 d) }
 
+-- this mode and gain, and the levels between them
+abbrev pub levels-from : List ℕ → ℕ → ℕ → Calibration
+levels-from d mode gain =
+    record { mode = mode; red = le16 (drop 1 d); green = le16 (drop 3 d); blue = le16 (drop 5 d); limit = le16 (drop 7 d); gain = gain }
+
+abbrev pub calibration-from : List ℕ → Calibration
+calibration-from d = levels-from d (getD d 0 0) (getD d 9 0)
+
 abbrev pub status-from : List ℕ → StatusBytes
 status-from d = record { first = getD d 0 0; second = getD d 1 0; third = getD d 2 0; fourth = getD d 3 0 }
 
@@ -196,6 +243,12 @@ written σ Heater d = with-heater σ (heater-from d)
 written σ Bezel d = with-bezel σ (bezel-from d)
 written σ Status d = σ
 written σ Pixels d = with-pixels σ (area-from d)
+written σ CalibrationMode d = with-calibration σ (with-mode (σ .calibration) (getD d 0 0))
+written σ RedLevel d = with-calibration σ (with-red (σ .calibration) (le16 d))
+written σ GreenLevel d = with-calibration σ (with-green (σ .calibration) (le16 d))
+written σ BlueLevel d = with-calibration σ (with-blue (σ .calibration) (le16 d))
+written σ CurrentLimit d = with-calibration σ (with-limit (σ .calibration) (le16 d))
+written σ SensorGain d = with-calibration σ (with-gain (σ .calibration) (getD d 0 0))
 
 -- ---- a command's effect and reply
 
@@ -228,7 +281,7 @@ execute σ row Read d = read-register σ (row .id) (row .register)
 
 unfoldable pub perform-offered : Settings → CommandRow → Access → List ℕ → Performed
 perform-offered σ row way d =
-    cond (locked σ row) (failed σ NotAvailable 0x04)
+    cond (locked σ row way) (failed σ NotAvailable 0x04)
     (cond (eqb (length d) (request-length row way)) (execute σ row way d)
     (failed σ WrongLength 0x05))
 

@@ -14,6 +14,12 @@ pub enum Register {
     Bezel,
     Status,
     Pixels,
+    CalibrationMode,
+    RedLevel,
+    GreenLevel,
+    BlueLevel,
+    CurrentLimit,
+    SensorGain,
 }
 
 // Which ways of access a register has.
@@ -22,10 +28,11 @@ pub enum Ways {
     ReadOnly,
 }
 
-// When a register's commands are available (mode right): at any time, or while master is on.
+// When a register's commands are available (mode right): at any time; while master is on; or while master is on and, to a write, in calibration mode.
 pub enum ModeRight {
     Always,
     MasterOn,
+    CalibrationOnly,
 }
 
 // A row of the command table. The count is that of a write's data, and of the data in a read's reply.

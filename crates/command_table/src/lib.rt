@@ -82,6 +82,54 @@ const PIXELS: CommandRow = CommandRow {
     right: ModeRight::MasterOn,
 };
 
+const CALIBRATION_MODE: CommandRow = CommandRow {
+    id: 0x64,
+    register: Register::CalibrationMode,
+    ways: Ways::ReadWrite,
+    count: 1,
+    right: ModeRight::MasterOn,
+};
+
+const RED_LEVEL: CommandRow = CommandRow {
+    id: 0x65,
+    register: Register::RedLevel,
+    ways: Ways::ReadWrite,
+    count: 2,
+    right: ModeRight::CalibrationOnly,
+};
+
+const GREEN_LEVEL: CommandRow = CommandRow {
+    id: 0x66,
+    register: Register::GreenLevel,
+    ways: Ways::ReadWrite,
+    count: 2,
+    right: ModeRight::CalibrationOnly,
+};
+
+const BLUE_LEVEL: CommandRow = CommandRow {
+    id: 0x67,
+    register: Register::BlueLevel,
+    ways: Ways::ReadWrite,
+    count: 2,
+    right: ModeRight::CalibrationOnly,
+};
+
+const CURRENT_LIMIT: CommandRow = CommandRow {
+    id: 0x68,
+    register: Register::CurrentLimit,
+    ways: Ways::ReadWrite,
+    count: 2,
+    right: ModeRight::CalibrationOnly,
+};
+
+const SENSOR_GAIN: CommandRow = CommandRow {
+    id: 0x69,
+    register: Register::SensorGain,
+    ways: Ways::ReadWrite,
+    count: 1,
+    right: ModeRight::CalibrationOnly,
+};
+
 // The row with this number, counted from 1.
 fn row_at(number: u8) -> Lookup
     ensures { λ r. ⌜ r ≡ row-at number ⌝ }
@@ -97,6 +145,12 @@ fn row_at(number: u8) -> Lookup
         7 => Lookup::Found(BEZEL),
         8 => Lookup::Found(STATUS),
         9 => Lookup::Found(PIXELS),
+        10 => Lookup::Found(CALIBRATION_MODE),
+        11 => Lookup::Found(RED_LEVEL),
+        12 => Lookup::Found(GREEN_LEVEL),
+        13 => Lookup::Found(BLUE_LEVEL),
+        14 => Lookup::Found(CURRENT_LIMIT),
+        15 => Lookup::Found(SENSOR_GAIN),
         _ => Lookup::Unknown,
     }
 }
@@ -119,8 +173,8 @@ fn index_word(block: u64) -> u64
         0x9 => 0,
         0xA => 0x09_00_00_00,
         0xB => 0,
-        0xC => 0,
-        0xD => 0,
+        0xC => 0x0D_0C_0B_0A_00_00_00_00,
+        0xD => 0x0F_0E,
         0xE => 0,
         0xF => 0,
         _ => u64::MAX,

@@ -47,7 +47,7 @@ rows =
     ∷ row 0x12 6 6 numbered
     ∷ row 0x13 6 6 any
     ∷ row 0x14 5 5 refusing
-    ∷ row 0x20 27 27 settings-allowed
+    ∷ row 0x20 37 37 settings-allowed
     ∷ row 0x21 1 17 any
     ∷ row 0x22 2 2 any
     ∷ row 0x23 2 2 any

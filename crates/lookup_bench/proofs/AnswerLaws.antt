@@ -5,11 +5,27 @@ use mathlib.Core.Bool.{Bool}
 use lib.Dec.{T, eqb, eqb→eq}
 use Rattle.base.proofs.Tests.{all-below, below-each}
 use Rattle.bus.specs.declared.command.Register.{Register}
-use Rattle.bus.specs.declared.command.Register.the-variants.{Backlight, Master, Park, Splash, Strength, Heater, Bezel, Status, Pixels}
+use Rattle.bus.specs.declared.command.Register.the-variants.{
+  Backlight,
+  Master,
+  Park,
+  Splash,
+  Strength,
+  Heater,
+  Bezel,
+  Status,
+  Pixels,
+  CalibrationMode,
+  RedLevel,
+  GreenLevel,
+  BlueLevel,
+  CurrentLimit,
+  SensorGain,
+}
 use Rattle.bus.specs.declared.command.Ways.{Ways}
 use Rattle.bus.specs.declared.command.Ways.the-variants.{ReadWrite, ReadOnly}
 use Rattle.bus.specs.declared.command.ModeRight.{ModeRight}
-use Rattle.bus.specs.declared.command.ModeRight.the-variants.{Always, MasterOn}
+use Rattle.bus.specs.declared.command.ModeRight.the-variants.{Always, MasterOn, CalibrationOnly}
 use Rattle.bus.specs.Commands.{lookup}
 use Rattle.lookup_bench.specs.Answer.{register-code, ways-code, right-code, answer}
 use Rattle.lookup_bench.specs.ByMatch.{match-id, row-matched, MatchAlike}
@@ -24,7 +40,7 @@ alike-everywhere = tt
 pub match-alike : MatchAlike
 match-alike id h = eqb→eq _ _ (below-each 128 alike-at alike-everywhere id h)
 
-pub register-code-small : (r : Register) → register-code r ≤ 0x800
+pub register-code-small : (r : Register) → register-code r ≤ 0xE00
 register-code-small Backlight = omega arith
 register-code-small Master = omega arith
 register-code-small Park = omega arith
@@ -34,11 +50,18 @@ register-code-small Heater = omega arith
 register-code-small Bezel = omega arith
 register-code-small Status = omega arith
 register-code-small Pixels = omega arith
+register-code-small CalibrationMode = omega arith
+register-code-small RedLevel = omega arith
+register-code-small GreenLevel = omega arith
+register-code-small BlueLevel = omega arith
+register-code-small CurrentLimit = omega arith
+register-code-small SensorGain = omega arith
 
 pub ways-code-small : (w : Ways) → ways-code w ≤ 0x1000
 ways-code-small ReadWrite = omega arith
 ways-code-small ReadOnly = omega arith
 
-pub right-code-small : (m : ModeRight) → right-code m ≤ 0x2000
+pub right-code-small : (m : ModeRight) → right-code m ≤ 0x4000
 right-code-small Always = omega arith
 right-code-small MasterOn = omega arith
+right-code-small CalibrationOnly = omega arith

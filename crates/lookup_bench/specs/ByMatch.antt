@@ -1,14 +1,30 @@
--- The lookup as it was before there was a table, in the same number.
+-- The lookup as it would be without a table, in the same number.
 use Prim.Native.Nat.{ℕ, _<_}
 use mathlib.Core.Path.{_≡_}
 use mathlib.Core.Bool.{cond}
-use lib.Dec.{eqb}
+use lib.Dec.{eqb, ltb}
 use Rattle.bus.specs.declared.command.Register.{Register}
-use Rattle.bus.specs.declared.command.Register.the-variants.{Backlight, Master, Park, Splash, Strength, Heater, Bezel, Status, Pixels}
+use Rattle.bus.specs.declared.command.Register.the-variants.{
+  Backlight,
+  Master,
+  Park,
+  Splash,
+  Strength,
+  Heater,
+  Bezel,
+  Status,
+  Pixels,
+  CalibrationMode,
+  RedLevel,
+  GreenLevel,
+  BlueLevel,
+  CurrentLimit,
+  SensorGain,
+}
 use Rattle.bus.specs.declared.command.Ways.{Ways}
 use Rattle.bus.specs.declared.command.Ways.the-variants.{ReadWrite, ReadOnly}
 use Rattle.bus.specs.declared.command.ModeRight.{ModeRight}
-use Rattle.bus.specs.declared.command.ModeRight.the-variants.{Always, MasterOn}
+use Rattle.bus.specs.declared.command.ModeRight.the-variants.{Always, MasterOn, CalibrationOnly}
 use Rattle.bus.specs.declared.command.CommandRow.{CommandRow}
 use Rattle.bus.specs.declared.command.Lookup.{Lookup}
 use Rattle.bus.specs.declared.command.Lookup.the-variants.{Found, Unknown}
@@ -28,7 +44,13 @@ match-id id =
     (cond (eqb id 0x28) (Known Bezel)
     (cond (eqb id 0x33) (Known Status)
     (cond (eqb id 0x53) (Known Pixels)
-    Nothing))))))))
+    (cond (eqb id 0x64) (Known CalibrationMode)
+    (cond (eqb id 0x65) (Known RedLevel)
+    (cond (eqb id 0x66) (Known GreenLevel)
+    (cond (eqb id 0x67) (Known BlueLevel)
+    (cond (eqb id 0x68) (Known CurrentLimit)
+    (cond (eqb id 0x69) (Known SensorGain)
+    Nothing))))))))))))))
 
 abbrev pub data-count : Register → ℕ
 data-count Backlight = 2
@@ -40,12 +62,18 @@ data-count Heater = 3
 data-count Bezel = 6
 data-count Status = 4
 data-count Pixels = 8
+data-count CalibrationMode = 1
+data-count RedLevel = 2
+data-count GreenLevel = 2
+data-count BlueLevel = 2
+data-count CurrentLimit = 2
+data-count SensorGain = 1
 
 abbrev pub ways : ℕ → Ways
 ways id = cond (eqb id 0x33) ReadOnly ReadWrite
 
 abbrev pub right : ℕ → ModeRight
-right id = cond (eqb id 0x01) Always MasterOn
+right id = cond (eqb id 0x01) Always (cond (ltb id 0x65) MasterOn CalibrationOnly)
 
 abbrev pub row : ℕ → Register → CommandRow
 row id r = command-row id r (ways id) (data-count r) (right id)

@@ -19,6 +19,12 @@ fn register_code(register: Register) -> u32
         Register::Bezel => 0x600,
         Register::Status => 0x700,
         Register::Pixels => 0x800,
+        Register::CalibrationMode => 0x900,
+        Register::RedLevel => 0xA00,
+        Register::GreenLevel => 0xB00,
+        Register::BlueLevel => 0xC00,
+        Register::CurrentLimit => 0xD00,
+        Register::SensorGain => 0xE00,
     }
 }
 
@@ -37,6 +43,7 @@ fn right_code(right: ModeRight) -> u32
     match right {
         ModeRight::Always => 0x2000,
         ModeRight::MasterOn => 0,
+        ModeRight::CalibrationOnly => 0x4000,
     }
 }
 

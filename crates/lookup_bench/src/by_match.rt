@@ -1,4 +1,4 @@
-// The lookup as it was before there was a table: a match on the ID, one on the register found, and tests of the ID.
+// The lookup as it would be without a table: a match on the ID, one on the register found, and tests of the ID.
 use crate::answer::row_answer;
 use bus::CommandRow;
 use bus::ModeRight;
@@ -28,6 +28,12 @@ fn match_id(id: u8) -> Matched
         0x28 => Matched::Known(Register::Bezel),
         0x33 => Matched::Known(Register::Status),
         0x53 => Matched::Known(Register::Pixels),
+        0x64 => Matched::Known(Register::CalibrationMode),
+        0x65 => Matched::Known(Register::RedLevel),
+        0x66 => Matched::Known(Register::GreenLevel),
+        0x67 => Matched::Known(Register::BlueLevel),
+        0x68 => Matched::Known(Register::CurrentLimit),
+        0x69 => Matched::Known(Register::SensorGain),
         _ => Matched::Nothing,
     }
 }
@@ -45,6 +51,12 @@ fn data_count(register: Register) -> u8
         Register::Bezel => 6,
         Register::Status => 4,
         Register::Pixels => 8,
+        Register::CalibrationMode => 1,
+        Register::RedLevel => 2,
+        Register::GreenLevel => 2,
+        Register::BlueLevel => 2,
+        Register::CurrentLimit => 2,
+        Register::SensorGain => 1,
     }
 }
 
@@ -63,7 +75,10 @@ fn right(id: u8) -> ModeRight
     if id == 0x01 {
         return ModeRight::Always;
     }
-    ModeRight::MasterOn
+    if id < 0x65 {
+        return ModeRight::MasterOn;
+    }
+    ModeRight::CalibrationOnly
 }
 
 fn row(id: u8, register: Register) -> CommandRow

@@ -1,4 +1,4 @@
-// The lookup of a command byte for a program in another language to time: as it is, and as it was before there was a table. Both answer
+// The lookup of a command byte for a program in another language to time: as it is, and as it would be without a table. Both answer
 // the row in one number, as specs/Answer.antt says.
 mod answer;
 mod by_match;

@@ -1,4 +1,4 @@
--- The settings block: document 01, "The adjustment link".
+-- The settings block: document 01, "The adjustment link"; document 02, Ask 6.
 use Prim.Native.Nat.{ℕ}
 use mathlib.Core.List.{List, _++_}
 use lib.ListN.{drop}
@@ -9,11 +9,13 @@ use Rattle.bus.specs.Commands.{
   heater-bytes,
   bezel-bytes,
   area-bytes,
+  calibration-bytes,
   status-bytes,
   switches-from,
   heater-from,
   bezel-from,
   area-from,
+  calibration-from,
   status-from,
 }
 
@@ -31,11 +33,14 @@ bezel-at = 9
 abbrev pub pixels-at : ℕ
 pixels-at = 15
 
+abbrev pub calibration-at : ℕ
+calibration-at = 23
+
 abbrev pub status-at : ℕ
-status-at = 23
+status-at = 33
 
 abbrev pub block-length : ℕ
-block-length = 27
+block-length = 37
 
 -- ---- the block
 
@@ -45,7 +50,20 @@ front-bytes σ = le16-bytes (σ .backlight) ++ switch-bytes (σ .switches) ++ he
 
 -- the settings in order
 unfoldable pub block : Settings → List ℕ
-block σ = front-bytes σ ++ area-bytes (σ .pixels) ++ status-bytes (σ .status)
+block σ = front-bytes σ ++ area-bytes (σ .pixels) ++ calibration-bytes (σ .calibration) ++ status-bytes (σ .status)
+
+-- what a block's bytes say before the test pixels, all else as it was
+abbrev pub front-from : Settings → List ℕ → Settings
+front-from σ d =
+    record {
+      backlight = le16 d;
+      switches = switches-from (drop switches-at d);
+      heater = heater-from (drop heater-at d);
+      bezel = bezel-from (drop bezel-at d);
+      pixels = σ .pixels;
+      calibration = σ .calibration;
+      status = σ .status;
+    }
 
 -- what a block's bytes say
 unfoldable pub from-block : List ℕ → Settings
@@ -56,5 +74,6 @@ from-block d =
       heater = heater-from (drop heater-at d);
       bezel = bezel-from (drop bezel-at d);
       pixels = area-from (drop pixels-at d);
+      calibration = calibration-from (drop calibration-at d);
       status = status-from (drop status-at d);
     }

@@ -3,6 +3,8 @@ use crate::fields::area_bytes;
 use crate::fields::area_from;
 use crate::fields::bezel_bytes;
 use crate::fields::bezel_from;
+use crate::fields::calibration_bytes;
+use crate::fields::calibration_from;
 use crate::fields::heater_bytes;
 use crate::fields::heater_from;
 use crate::fields::status_bytes;
@@ -13,6 +15,7 @@ use number::high;
 use number::le16;
 use number::low;
 use settings::Area;
+use settings::Calibration;
 use settings::Settings;
 use settings::StatusBytes;
 ghost use mathlib.Core.Path.{_≡_};
@@ -29,10 +32,12 @@ const BEZEL_AT: usize = 9;
 
 const PIXELS_AT: usize = 15;
 
-const STATUS_AT: usize = 23;
+const CALIBRATION_AT: usize = 23;
+
+const STATUS_AT: usize = 33;
 
 // A settings block's length.
-pub const BLOCK: usize = 27;
+pub const BLOCK: usize = 37;
 
 // All before the test pixels.
 fn front_bytes(settings: Settings) -> [u8; PIXELS_AT]
@@ -74,11 +79,26 @@ fn store_pixels(a: Area, out: &mut [u8; BLOCK])
     store(&b, out, PIXELS_AT);
 }
 
+fn store_calibration(c: Calibration, out: &mut [u8; BLOCK])
+    ensures { λ _. ⌜ now (out .exit) ≡ sets (now (out .entry)) spec.calibration-at (commands.calibration-bytes c) ⌝ }
+{
+    let b = calibration_bytes(c);
+    store(&b, out, CALIBRATION_AT);
+}
+
 fn store_status(s: StatusBytes, out: &mut [u8; BLOCK])
     ensures { λ _. ⌜ now (out .exit) ≡ sets (now (out .entry)) spec.status-at (commands.status-bytes s) ⌝ }
 {
     let b = status_bytes(s);
     store(&b, out, STATUS_AT);
+}
+
+// All behind the test pixels.
+fn store_end(c: Calibration, s: StatusBytes, out: &mut [u8; BLOCK])
+    ensures { λ _. ⌜ now (out .exit) ≡ sets (sets (now (out .entry)) spec.calibration-at (commands.calibration-bytes c)) spec.status-at (commands.status-bytes s) ⌝ }
+{
+    store_calibration(c, out);
+    store_status(s, out);
 }
 
 pub fn block(settings: Settings) -> [u8; BLOCK]
@@ -87,19 +107,28 @@ pub fn block(settings: Settings) -> [u8; BLOCK]
     let mut out = [0; BLOCK];
     store_front(settings, &mut out);
     store_pixels(settings.pixels, &mut out);
-    store_status(settings.status, &mut out);
+    store_end(settings.calibration, settings.status, &mut out);
     out
+}
+
+// What a block says before the test pixels, all else as it was.
+fn front_from(settings: Settings, bytes: &[u8]) -> Settings
+    ensures { λ r. ⌜ r ≡ spec.front-from settings (now (bytes .entry)) ⌝ }
+{
+    let mut s = settings;
+    s.backlight = le16(bytes);
+    s.switches = switches_from(bytes, SWITCHES_AT);
+    s.heater = heater_from(bytes, HEATER_AT);
+    s.bezel = bezel_from(bytes, BEZEL_AT);
+    s
 }
 
 pub fn from_block(bytes: &[u8]) -> Settings
     ensures { λ r. ⌜ r ≡ spec.from-block (now (bytes .entry)) ⌝ }
 {
-    Settings {
-        backlight: le16(bytes),
-        switches: switches_from(bytes, SWITCHES_AT),
-        heater: heater_from(bytes, HEATER_AT),
-        bezel: bezel_from(bytes, BEZEL_AT),
-        pixels: area_from(bytes, PIXELS_AT),
-        status: status_from(bytes, STATUS_AT),
-    }
+    let mut s = front_from(Settings::fresh(), bytes);
+    s.pixels = area_from(bytes, PIXELS_AT);
+    s.calibration = calibration_from(bytes, CALIBRATION_AT);
+    s.status = status_from(bytes, STATUS_AT);
+    s
 }

@@ -26,24 +26,38 @@ fn execute(settings: Settings, row: CommandRow, access: Access, bytes: &[u8]) ->
     }
 }
 
-// Whether master is off and keeps a register from its commands.
-fn locked(settings: Settings, row: CommandRow) -> bool
-    ensures { λ r. ⌜ r ≡ spec.locked settings row ⌝ }
+fn denies(right: ModeRight, access: Access, master: u8, mode: u8) -> bool
+    ensures { λ r. ⌜ r ≡ spec.denies right access master mode ⌝ }
 {
-    let right = row.right;
     match right {
         ModeRight::Always => false,
-        ModeRight::MasterOn => {
-            let switches = settings.switches;
-            switches.master == 0
-        }
+        ModeRight::MasterOn => master == 0,
+        ModeRight::CalibrationOnly => match access {
+            Access::Write => {
+                if master == 0 {
+                    return true;
+                }
+                mode == 0
+            }
+            Access::Read => master == 0,
+        },
     }
+}
+
+// Whether master or the calibration mode keeps a register from being written, or read.
+fn locked(settings: Settings, row: CommandRow, access: Access) -> bool
+    ensures { λ r. ⌜ r ≡ spec.locked settings row access ⌝ }
+{
+    let right = row.right;
+    let switches = settings.switches;
+    let calibration = settings.calibration;
+    denies(right, access, switches.master, calibration.mode)
 }
 
 fn perform_offered(settings: Settings, row: CommandRow, access: Access, bytes: &[u8]) -> Performed
     ensures { λ r. ⌜ r ≡ spec.perform-offered settings row access (now (bytes .entry)) ⌝ }
 {
-    if locked(settings, row) {
+    if locked(settings, row, access) {
         return failed(settings, Flag::NotAvailable, 0x04);
     }
     if bytes.len() == request_length(row, access) {

@@ -8,6 +8,7 @@ use number::offset;
 use number::rest;
 use number::sign;
 use settings::Area;
+use settings::Calibration;
 use settings::HeaterDrive;
 use settings::Offsets;
 use settings::StatusBytes;
@@ -38,8 +39,9 @@ pub(crate) fn bezel_bytes(o: Offsets) -> [u8; 6]
     [h[0], h[1], h[2], v[0], v[1], v[2]]
 }
 
-fn point_bytes(x: u16, y: u16) -> [u8; 4]
-    ensures { λ r. ⌜ r ≡ spec.point-bytes x y ⌝ }
+// Two numbers of two bytes.
+fn pair_bytes(x: u16, y: u16) -> [u8; 4]
+    ensures { λ r. ⌜ r ≡ spec.pair-bytes x y ⌝ }
 {
     [low(x), high(x), low(y), high(y)]
 }
@@ -47,8 +49,8 @@ fn point_bytes(x: u16, y: u16) -> [u8; 4]
 pub(crate) fn area_bytes(a: Area) -> [u8; 8]
     ensures { λ r. ⌜ r ≡ spec.area-bytes a ⌝ }
 {
-    let start = point_bytes(a.x0, a.y0);
-    let end = point_bytes(a.x1, a.y1);
+    let start = pair_bytes(a.x0, a.y0);
+    let end = pair_bytes(a.x1, a.y1);
     [
         start[0],
         start[1],
@@ -58,6 +60,25 @@ pub(crate) fn area_bytes(a: Area) -> [u8; 8]
         end[1],
         end[2],
         end[3],
+    ]
+}
+
+pub(crate) fn calibration_bytes(c: Calibration) -> [u8; 10]
+    ensures { λ r. ⌜ r ≡ spec.calibration-bytes c ⌝ }
+{
+    let first = pair_bytes(c.red, c.green);
+    let second = pair_bytes(c.blue, c.limit);
+    [
+        c.mode,
+        first[0],
+        first[1],
+        first[2],
+        first[3],
+        second[0],
+        second[1],
+        second[2],
+        second[3],
+        c.gain,
     ]
 }
 
@@ -124,6 +145,26 @@ pub(crate) fn area_from(bytes: &[u8], at: usize) -> Area
         x1: le16_from(part, 4),
         y1: le16_from(part, 6),
     }
+}
+
+fn levels_from(bytes: &[u8], mode: u8, gain: u8) -> Calibration
+    ensures { λ r. ⌜ r ≡ spec.levels-from (now (bytes .entry)) mode gain ⌝ }
+{
+    Calibration {
+        mode,
+        red: le16_from(bytes, 1),
+        green: le16_from(bytes, 3),
+        blue: le16_from(bytes, 5),
+        limit: le16_from(bytes, 7),
+        gain,
+    }
+}
+
+pub(crate) fn calibration_from(bytes: &[u8], at: usize) -> Calibration
+    ensures { λ r. ⌜ r ≡ spec.calibration-from (drop at (now (bytes .entry))) ⌝ }
+{
+    let part = rest(bytes, at);
+    levels_from(part, byte(part, 0), byte(part, 9))
 }
 
 pub(crate) fn status_from(bytes: &[u8], at: usize) -> StatusBytes

@@ -20,7 +20,7 @@ ghost use Rattle.number.specs.Number.{le16-bytes};
 ghost use Rattle.packet.specs.Reply.{success as success-of};
 ghost use Rattle.bus.specs.Commands as spec;
 
-fn read_backlight(level: u16) -> ReplyBytes
+fn read_level(level: u16) -> ReplyBytes
     ensures { λ r. ⌜ r ≡ spec.reply-of (success-of (le16-bytes level)) ⌝ }
 {
     let b = [low(level), high(level)];
@@ -75,8 +75,9 @@ fn read(settings: Settings, register: Register) -> ReplyBytes
     ensures { λ r. ⌜ r ≡ spec.reply-of (success-of (spec.read settings register)) ⌝ }
 {
     let switches = settings.switches;
+    let calibration = settings.calibration;
     match register {
-        Register::Backlight => read_backlight(settings.backlight),
+        Register::Backlight => read_level(settings.backlight),
         Register::Master => read_byte(switches.master),
         Register::Park => read_byte(parked(switches.park)),
         Register::Splash => read_byte(switches.splash),
@@ -85,6 +86,12 @@ fn read(settings: Settings, register: Register) -> ReplyBytes
         Register::Bezel => read_bezel(settings.bezel),
         Register::Status => read_status(settings.status),
         Register::Pixels => read_pixels(settings.pixels),
+        Register::CalibrationMode => read_byte(calibration.mode),
+        Register::RedLevel => read_level(calibration.red),
+        Register::GreenLevel => read_level(calibration.green),
+        Register::BlueLevel => read_level(calibration.blue),
+        Register::CurrentLimit => read_level(calibration.limit),
+        Register::SensorGain => read_byte(calibration.gain),
     }
 }
 

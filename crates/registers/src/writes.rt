@@ -10,6 +10,7 @@ use number::byte;
 use number::le16;
 use settings::DUTY_LIMIT;
 use settings::Flag;
+use settings::GAIN_LIMIT;
 use settings::SIGN_LIMIT;
 use settings::STRENGTH_LIMIT;
 use settings::SWITCH_LIMIT;
@@ -46,6 +47,12 @@ fn accepts(register: Register, bytes: &[u8]) -> bool
         Register::Bezel => signs_accepted(bytes),
         Register::Status => true,
         Register::Pixels => true,
+        Register::CalibrationMode => at_most(bytes, 0, SWITCH_LIMIT),
+        Register::RedLevel => true,
+        Register::GreenLevel => true,
+        Register::BlueLevel => true,
+        Register::CurrentLimit => true,
+        Register::SensorGain => at_most(bytes, 0, GAIN_LIMIT),
     }
 }
 
@@ -54,6 +61,7 @@ fn written(settings: Settings, register: Register, bytes: &[u8]) -> Settings
 {
     let mut s = settings;
     let mut switches = settings.switches;
+    let mut calibration = settings.calibration;
     match register {
         Register::Backlight => {
             s.backlight = le16(bytes);
@@ -93,6 +101,36 @@ fn written(settings: Settings, register: Register, bytes: &[u8]) -> Settings
         Register::Pixels => {
             let a = area_from(bytes, 0);
             s.pixels = a;
+            s
+        }
+        Register::CalibrationMode => {
+            calibration.mode = byte(bytes, 0);
+            s.calibration = calibration;
+            s
+        }
+        Register::RedLevel => {
+            calibration.red = le16(bytes);
+            s.calibration = calibration;
+            s
+        }
+        Register::GreenLevel => {
+            calibration.green = le16(bytes);
+            s.calibration = calibration;
+            s
+        }
+        Register::BlueLevel => {
+            calibration.blue = le16(bytes);
+            s.calibration = calibration;
+            s
+        }
+        Register::CurrentLimit => {
+            calibration.limit = le16(bytes);
+            s.calibration = calibration;
+            s
+        }
+        Register::SensorGain => {
+            calibration.gain = byte(bytes, 0);
+            s.calibration = calibration;
             s
         }
     }

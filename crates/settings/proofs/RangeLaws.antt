@@ -39,7 +39,16 @@ switches-held w e =
 pub held-in-range : (σ : Settings) → Held σ → in-range σ ≡ true
 held-in-range σ h =
     let w = h .switches in
-    rw (le-leb _ _ (w .master), le-leb _ _ (w .park), le-leb _ _ (w .splash), le-leb _ _ (w .strength), le-leb _ _ (h .heater .duty))
+    let c = h .calibration in
+    rw (
+      le-leb _ _ (w .master),
+      le-leb _ _ (w .park),
+      le-leb _ _ (w .splash),
+      le-leb _ _ (w .strength),
+      le-leb _ _ (h .heater .duty),
+      le-leb _ _ (c .mode),
+      le-leb _ _ (c .gain),
+    )
 
 pub fresh-held : Held fresh
 fresh-held = search arith

@@ -8,6 +8,7 @@ use Rattle.settings.specs.declared.settings.Switches.{Switches}
 use Rattle.settings.specs.declared.settings.HeaterDrive.{HeaterDrive}
 use Rattle.settings.specs.declared.settings.Offsets.{Offsets}
 use Rattle.settings.specs.declared.settings.Area.{Area}
+use Rattle.settings.specs.declared.settings.Calibration.{Calibration}
 use Rattle.settings.specs.declared.settings.StatusBytes.{StatusBytes}
 use Rattle.settings.specs.declared.settings.Flag.{Flag}
 use Rattle.settings.specs.declared.settings.Flag.the-variants.{
@@ -23,26 +24,29 @@ use Rattle.settings.specs.declared.settings.Flag.the-variants.{
 
 -- ---- the settings with one part of them changed
 
-abbrev settings-of : ℕ → Switches → HeaterDrive → Offsets → Area → StatusBytes → Settings
-settings-of l w h o a s = record { backlight = l; switches = w; heater = h; bezel = o; pixels = a; status = s }
+abbrev settings-of : ℕ → Switches → HeaterDrive → Offsets → Area → Calibration → StatusBytes → Settings
+settings-of l w h o a c s = record { backlight = l; switches = w; heater = h; bezel = o; pixels = a; calibration = c; status = s }
 
 abbrev pub with-backlight : Settings → ℕ → Settings
-with-backlight σ v = settings-of v (σ .switches) (σ .heater) (σ .bezel) (σ .pixels) (σ .status)
+with-backlight σ v = settings-of v (σ .switches) (σ .heater) (σ .bezel) (σ .pixels) (σ .calibration) (σ .status)
 
 abbrev pub with-switches : Settings → Switches → Settings
-with-switches σ v = settings-of (σ .backlight) v (σ .heater) (σ .bezel) (σ .pixels) (σ .status)
+with-switches σ v = settings-of (σ .backlight) v (σ .heater) (σ .bezel) (σ .pixels) (σ .calibration) (σ .status)
 
 abbrev pub with-heater : Settings → HeaterDrive → Settings
-with-heater σ v = settings-of (σ .backlight) (σ .switches) v (σ .bezel) (σ .pixels) (σ .status)
+with-heater σ v = settings-of (σ .backlight) (σ .switches) v (σ .bezel) (σ .pixels) (σ .calibration) (σ .status)
 
 abbrev pub with-bezel : Settings → Offsets → Settings
-with-bezel σ v = settings-of (σ .backlight) (σ .switches) (σ .heater) v (σ .pixels) (σ .status)
+with-bezel σ v = settings-of (σ .backlight) (σ .switches) (σ .heater) v (σ .pixels) (σ .calibration) (σ .status)
 
 abbrev pub with-pixels : Settings → Area → Settings
-with-pixels σ v = settings-of (σ .backlight) (σ .switches) (σ .heater) (σ .bezel) v (σ .status)
+with-pixels σ v = settings-of (σ .backlight) (σ .switches) (σ .heater) (σ .bezel) v (σ .calibration) (σ .status)
+
+abbrev pub with-calibration : Settings → Calibration → Settings
+with-calibration σ v = settings-of (σ .backlight) (σ .switches) (σ .heater) (σ .bezel) (σ .pixels) v (σ .status)
 
 abbrev pub with-status : Settings → StatusBytes → Settings
-with-status σ v = settings-of (σ .backlight) (σ .switches) (σ .heater) (σ .bezel) (σ .pixels) v
+with-status σ v = settings-of (σ .backlight) (σ .switches) (σ .heater) (σ .bezel) (σ .pixels) (σ .calibration) v
 
 abbrev pub with-master : Switches → ℕ → Switches
 with-master w v = record { master = v; park = w .park; splash = w .splash; strength = w .strength }
@@ -55,6 +59,27 @@ with-splash w v = record { master = w .master; park = w .park; splash = v; stren
 
 abbrev pub with-strength : Switches → ℕ → Switches
 with-strength w v = record { master = w .master; park = w .park; splash = w .splash; strength = v }
+
+abbrev calibration-of : ℕ → ℕ → ℕ → ℕ → ℕ → ℕ → Calibration
+calibration-of mode red green blue limit gain = record { mode = mode; red = red; green = green; blue = blue; limit = limit; gain = gain }
+
+abbrev pub with-mode : Calibration → ℕ → Calibration
+with-mode c v = calibration-of v (c .red) (c .green) (c .blue) (c .limit) (c .gain)
+
+abbrev pub with-red : Calibration → ℕ → Calibration
+with-red c v = calibration-of (c .mode) v (c .green) (c .blue) (c .limit) (c .gain)
+
+abbrev pub with-green : Calibration → ℕ → Calibration
+with-green c v = calibration-of (c .mode) (c .red) v (c .blue) (c .limit) (c .gain)
+
+abbrev pub with-blue : Calibration → ℕ → Calibration
+with-blue c v = calibration-of (c .mode) (c .red) (c .green) v (c .limit) (c .gain)
+
+abbrev pub with-limit : Calibration → ℕ → Calibration
+with-limit c v = calibration-of (c .mode) (c .red) (c .green) (c .blue) v (c .gain)
+
+abbrev pub with-gain : Calibration → ℕ → Calibration
+with-gain c v = calibration-of (c .mode) (c .red) (c .green) (c .blue) (c .limit) v
 
 -- ---- the status bits
 
@@ -101,5 +126,6 @@ fresh =
       heater = record { khz = 0; duty = 0 };
       bezel = record { horizontal = pos 0; vertical = pos 0 };
       pixels = record { x0 = 0; y0 = 0; x1 = 0; y1 = 0 };
+      calibration = calibration-of 0 0 0 0 0 0;
       status = no-flags;
     }

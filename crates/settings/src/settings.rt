@@ -30,6 +30,16 @@ pub struct Area {
     pub y1: u16,
 }
 
+// Calibration mode, the PWM levels of the three lamps and of the current limit, and the sensor gain.
+pub struct Calibration {
+    pub mode: u8,
+    pub red: u16,
+    pub green: u16,
+    pub blue: u16,
+    pub limit: u16,
+    pub gain: u8,
+}
+
 pub struct StatusBytes {
     pub first: u8,
     pub second: u8,
@@ -43,6 +53,7 @@ pub struct Settings {
     pub heater: HeaterDrive,
     pub bezel: Offsets,
     pub pixels: Area,
+    pub calibration: Calibration,
     pub status: StatusBytes,
 }
 
@@ -137,6 +148,14 @@ impl Settings {
                 y0: 0,
                 x1: 0,
                 y1: 0,
+            },
+            calibration: Calibration {
+                mode: 0,
+                red: 0,
+                green: 0,
+                blue: 0,
+                limit: 0,
+                gain: 0,
             },
             status: StatusBytes {
                 first: 0,

@@ -35,12 +35,22 @@ pub(crate) enum Switch {
     Strength,
 }
 
+pub(crate) enum Calibrated {
+    Mode,
+    Red,
+    Green,
+    Blue,
+    Limit,
+    Gain,
+}
+
 pub(crate) enum Register {
     Backlight,
     Switch(Switch),
     Heater,
     Bezel,
     Pixels,
+    Calibration(Calibrated),
     Status,
 }
 

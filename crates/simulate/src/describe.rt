@@ -7,6 +7,7 @@ use session::Cab;
 use session::Office;
 use session::Pair;
 use session::Stage;
+use settings::Calibration;
 use settings::Settings;
 use settings::StatusBytes;
 use settings::Switches;
@@ -66,7 +67,8 @@ fn settings(out: &mut Output, at: usize, held: Settings) -> usize {
     let said = print::with(&mut *out, at, b": level _", &level);
     let one = switches(&mut *out, said, held.switches);
     let several = areas(&mut *out, one, held);
-    status(&mut *out, several, held.status)
+    let trimmed = calibration(&mut *out, several, held.calibration);
+    status(&mut *out, trimmed, held.status)
 }
 
 fn switches(out: &mut Output, at: usize, one: Switches) -> usize {
@@ -102,6 +104,24 @@ fn areas(out: &mut Output, at: usize, held: Settings) -> usize {
         b", test pixels (_, _) to (_, _)",
         held.pixels,
     )
+}
+
+fn calibration(out: &mut Output, at: usize, held: Calibration) -> usize {
+    let lamps = [held.red as u64, held.green as u64, held.blue as u64];
+    let rest = [held.limit as u64, held.gain as u64];
+    let on = held.mode != 0;
+    let mode = print::all(
+        &mut *out,
+        at,
+        print::nth(b", normal mode|, calibration mode", on as usize),
+    );
+    let said = print::with(
+        &mut *out,
+        mode,
+        b", red level _, green level _, blue level _",
+        &lamps,
+    );
+    print::with(&mut *out, said, b", current limit _, sensor gain _", &rest)
 }
 
 fn status(out: &mut Output, at: usize, s: StatusBytes) -> usize {

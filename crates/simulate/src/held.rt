@@ -1,9 +1,11 @@
 // What a controller holds, register by register.
+use crate::asked::Calibrated;
 use crate::asked::Register;
 use crate::asked::Switch;
 use crate::buffers::Output;
 use crate::print;
 use settings::Area;
+use settings::Calibration;
 use settings::HeaterDrive;
 use settings::Offsets;
 use settings::Settings;
@@ -18,6 +20,7 @@ pub(crate) fn held(out: &mut Output, at: usize, settings: Settings, register: Re
         Register::Heater => heater(&mut *out, at, b"_ _", settings.heater),
         Register::Bezel => bezel(&mut *out, at, settings.bezel),
         Register::Pixels => pixels(&mut *out, at, b"_ _ _ _", settings.pixels),
+        Register::Calibration(which) => calibrated(&mut *out, at, settings.calibration, which),
         Register::Status => status(&mut *out, at, settings.status),
     }
 }
@@ -28,6 +31,18 @@ fn switched(out: &mut Output, at: usize, held: Switches, switch: Switch) -> usiz
         Switch::Park => held.park,
         Switch::Splash => held.splash,
         Switch::Strength => held.strength,
+    };
+    print::decimal(&mut *out, at, n as u64)
+}
+
+fn calibrated(out: &mut Output, at: usize, held: Calibration, which: Calibrated) -> usize {
+    let n = match which {
+        Calibrated::Mode => held.mode as u16,
+        Calibrated::Red => held.red,
+        Calibrated::Green => held.green,
+        Calibrated::Blue => held.blue,
+        Calibrated::Limit => held.limit,
+        Calibrated::Gain => held.gain as u16,
     };
     print::decimal(&mut *out, at, n as u64)
 }

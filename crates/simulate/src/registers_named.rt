@@ -4,6 +4,7 @@ use crate::arguments::which;
 use crate::asked;
 use crate::asked::Action;
 use crate::asked::Asked;
+use crate::asked::Calibrated;
 use crate::asked::Fault;
 use crate::asked::Holder;
 use crate::asked::Register;
@@ -30,7 +31,7 @@ pub(crate) fn held(holder: Holder, s: &[u8]) -> Asked {
 fn named(word: &[u8]) -> Found {
     match which(
         word,
-        b"backlight master park splash strength heater bezel pixels status",
+        b"backlight master park splash strength heater bezel pixels calibration red green blue limit gain status",
     ) {
         0 => Found::Of(Register::Backlight),
         1 => Found::Of(Register::Switch(Switch::Master)),
@@ -40,7 +41,13 @@ fn named(word: &[u8]) -> Found {
         5 => Found::Of(Register::Heater),
         6 => Found::Of(Register::Bezel),
         7 => Found::Of(Register::Pixels),
-        8 => Found::Of(Register::Status),
+        8 => Found::Of(Register::Calibration(Calibrated::Mode)),
+        9 => Found::Of(Register::Calibration(Calibrated::Red)),
+        10 => Found::Of(Register::Calibration(Calibrated::Green)),
+        11 => Found::Of(Register::Calibration(Calibrated::Blue)),
+        12 => Found::Of(Register::Calibration(Calibrated::Limit)),
+        13 => Found::Of(Register::Calibration(Calibrated::Gain)),
+        14 => Found::Of(Register::Status),
         _ => Found::Unknown,
     }
 }

@@ -10,8 +10,8 @@ use crate::print;
 use crate::world::Notes;
 
 // More than any answer takes, and what it should have been. The longest is that of a line of OPENs to the box's receiver: a WELCOME to
-// each, some 21,000 characters.
-const ANSWER_LIMIT: usize = 24576;
+// each, some 25,000 characters.
+const ANSWER_LIMIT: usize = 28672;
 
 // Where ` ->` stands, or the end.
 fn arrow(s: &[u8]) -> usize {

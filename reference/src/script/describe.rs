@@ -41,6 +41,11 @@ pub fn office(office: &Office) -> String {
 fn settings(held: &Settings) -> String {
     let master = if held.master { "on" } else { "off" };
     let parked = if held.parked { "parked" } else { "not parked" };
+    let mode = if held.calibration {
+        "calibration mode"
+    } else {
+        "normal mode"
+    };
     let [horizontal, vertical] = held.bezel;
     let [start_x, start_y, end_x, end_y] = held.pixels;
     [
@@ -52,6 +57,12 @@ fn settings(held: &Settings) -> String {
         format!("heater {} kHz at {} %", held.heater.khz, held.heater.duty),
         format!("bezel {horizontal} and {vertical}"),
         format!("test pixels ({start_x}, {start_y}) to ({end_x}, {end_y})"),
+        mode.to_string(),
+        format!("red level {}", held.red),
+        format!("green level {}", held.green),
+        format!("blue level {}", held.blue),
+        format!("current limit {}", held.current_limit),
+        format!("sensor gain {}", held.gain),
         format!("status {}", status(held.status)),
     ]
     .join(", ")

@@ -2,8 +2,9 @@
 
 use reference::link::End;
 use reference::rng::Rng;
+use reference::settings::{BLOCK, Register, place, places};
 
-use crate::frames::{Aim, settings};
+use crate::frames::{Aim, calibration, limited, settings, signs};
 
 /// A field as it is written; its length may be another than that of its contents.
 #[derive(Clone)]
@@ -152,10 +153,12 @@ fn other_length(rng: &mut Rng, fields: &mut [Field]) {
         return;
     };
     let right = field.length;
+    let untrimmed = BLOCK - calibration().len();
     field.length = match rng.weighted(&[40, 35, 10, 10, 5, 2]) {
         0 => rng.pick(&[right.saturating_sub(1), right + 1, right + 1]),
-        1 => rng.pick(&[0, 0, 1, 2, 3, 4, 5, 6, 7, 17, 18, 18, 19, 26, 27, 28]),
-        2 => rng.below(40),
+        1 if rng.chance(25) => rng.pick(&[untrimmed, BLOCK - 1, BLOCK, BLOCK + 1]),
+        1 => rng.pick(&[0, 0, 1, 2, 3, 4, 5, 6, 7, 17, 18, 18, 19]),
+        2 => rng.below(BLOCK + 13),
         3 => right + 256 * rng.pick(&[1, 1, 2, 16, 255]),
         4 => rng.number() as u16 as usize,
         // A field at 9, 7 or 0 then ends at 65536, which 16 bits count as 0, or beyond.
@@ -178,7 +181,8 @@ fn other_contents(rng: &mut Rng, fields: &mut [Field]) {
             number.copy_from_slice(&rng.pick(&[[0, 0], [0, 0], [0, 1], [1, 0]]));
         }
         (0x14, _) => *field = other_refuse(rng),
-        (0x20, block) if block.len() == 27 => other_settings(rng, block),
+        (0x20, block) if block.len() == BLOCK && rng.chance(20) => other_order(rng, block),
+        (0x20, block) if block.len() == BLOCK => other_settings(rng, block),
         (_, contents) => contents[rng.below(contents.len())] = rng.byte(),
     }
 }
@@ -200,17 +204,36 @@ fn other_refuse(rng: &mut Rng) -> Field {
 /// A byte near a limit, most often one that has a limit; sometimes an offset of minus 0.
 fn other_settings(rng: &mut Rng, block: &mut [u8]) {
     let place = match rng.below(3) {
-        0 => rng.below(27),
-        _ => rng.pick(&[2, 3, 4, 5, 8, 11, 14]),
+        0 => rng.below(BLOCK),
+        _ => rng.pick(&limited()).0,
     };
     block[place] = match rng.below(3) {
         0 => rng.byte(),
-        _ => rng.pick(&[0, 1, 2, 3, 100, 101, 102, 128, 255]),
+        _ => rng.pick(&[0, 1, 2, 3, 4, 5, 100, 101, 102, 128, 255]),
     };
     if rng.chance(25) {
-        let offset = rng.pick(&[9, 12]);
-        block[offset..offset + 3].fill(0);
+        let sign = rng.pick(&signs());
+        block[sign - 2..=sign].fill(0);
     }
+}
+
+/// Two registers in each other's place, mostly neighbours; or the status before what calibration is about.
+pub fn other_order(rng: &mut Rng, block: &mut [u8]) {
+    if rng.chance(15) {
+        block[calibration().start..].rotate_right(place(Register::Status).len());
+        return;
+    }
+    let mut parts: Vec<Vec<u8>> = places().map(|(_, place)| block[place].to_vec()).collect();
+    let untrimmed = places().take_while(|(register, _)| *register != Register::Calibration);
+    let first = rng.pick(&[0, untrimmed.count()]);
+    let one = rng.between(first, parts.len() - 2);
+    let other = if rng.chance(60) {
+        one + 1
+    } else {
+        rng.below(parts.len())
+    };
+    parts.swap(one, other);
+    block.copy_from_slice(&parts.concat());
 }
 
 /// Bytes behind the end, of which some could be fields.

@@ -1,6 +1,9 @@
 //! Random frames for the link, good and bad.
 
+use std::ops::Range;
+
 use reference::rng::Rng;
+use reference::settings::{BLOCK, Register, place};
 use reference::traffic::command;
 
 /// What a hostile frame is made to name.
@@ -17,7 +20,7 @@ fn field(tag: u8, contents: &[u8]) -> Vec<u8> {
 /// Few bits, the named ones most, so that each of them is met without others.
 fn sparse_status(rng: &mut Rng) -> [u8; 4] {
     let mut status = [0; 4];
-    for _ in 0..rng.below(4) {
+    for _ in 0..rng.pick(&[0, 1, 1, 2, 3]) {
         let (byte, bit) = if rng.chance(80) {
             rng.pick(&[(0, 3), (0, 2), (0, 0), (1, 5), (3, 7), (3, 6), (3, 5), (3, 4)])
         } else {
@@ -28,36 +31,63 @@ fn sparse_status(rng: &mut Rng) -> [u8; 4] {
     status
 }
 
+/// Where the bytes of a settings block stand that cannot have every value: each with the most it can be.
+pub fn limited() -> [(usize, u8); 9] {
+    let [horizontal, vertical] = signs();
+    let first = |register| place(register).start;
+    [
+        (first(Register::Master), 1),
+        (first(Register::Park), 1),
+        (first(Register::Splash), 1),
+        (first(Register::Strength), 2),
+        (place(Register::Heater).end - 1, 100),
+        (horizontal, 1),
+        (vertical, 1),
+        (first(Register::Calibration), 1),
+        (first(Register::Gain), 3),
+    ]
+}
+
+/// Where the signs of the bezel offsets stand, each behind its amount.
+pub fn signs() -> [usize; 2] {
+    let bezel = place(Register::Bezel);
+    [bezel.start + 2, bezel.start + 5]
+}
+
+/// What a settings block has about calibration.
+pub fn calibration() -> Range<usize> {
+    place(Register::Calibration).start..place(Register::Gain).end
+}
+
 /// A settings block; this percentage of them has a value that no controller holds.
 pub fn settings(rng: &mut Rng, bad: usize) -> Vec<u8> {
-    let mut block = rng.bytes(27);
-    block[2] = u8::from(!rng.chance(15));
-    block[3] = rng.below(2) as u8;
-    block[4] = rng.below(2) as u8;
-    block[5] = rng.below(3) as u8;
-    block[8] = rng.below(101) as u8;
-    for sign in [11, 14] {
-        block[sign] = rng.below(2) as u8;
-        if block[sign - 2] == 0 && block[sign - 1] == 0 {
+    let mut block = rng.bytes(BLOCK);
+    for (place, most) in limited() {
+        block[place] = rng.below(usize::from(most) + 1) as u8;
+    }
+    block[place(Register::Master)].fill(u8::from(!rng.chance(15)));
+    for sign in signs() {
+        if block[sign - 2..sign] == [0, 0] {
             block[sign] = 1;
         }
     }
     if rng.chance(70) {
-        block[23..].copy_from_slice(&sparse_status(rng));
+        block[place(Register::Status)].copy_from_slice(&sparse_status(rng));
     }
     if rng.chance(bad) {
-        match rng.below(8) {
-            0 => block[2] = 2,
-            1 => block[3] = 2,
-            2 => block[4] = 2,
-            3 => block[5] = 3,
-            4 => block[8] = 101,
-            5 => block[11] = 2,
-            6 => block[14] = 0xFF,
-            _ => block[9..12].fill(0),
+        match rng.below(10) {
+            // An offset of minus 0.
+            0 => {
+                let sign = rng.pick(&signs());
+                block[sign - 2..=sign].fill(0);
+            }
+            _ => {
+                let (place, most) = rng.pick(&limited());
+                block[place] = rng.pick(&[most + 1, most + 1, most + 1, 0xFF]);
+            }
         }
     } else if rng.chance(20) {
-        block[8] = 100;
+        block[place(Register::Heater).end - 1] = 100;
     }
     block
 }

@@ -10,6 +10,7 @@ mod offices;
 mod pieces;
 mod runs;
 mod stream;
+mod trim;
 
 use std::array;
 use std::collections::BTreeSet;

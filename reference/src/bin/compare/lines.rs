@@ -1,10 +1,12 @@
 //! Lines that are no calls, and calls written oddly.
 
+use reference::link::LONGEST_FRAME;
 use reference::rng::Rng;
 
 /// The longest line that is read.
 const LONGEST: usize = 4096;
 
+/// Where LEAST stands, the least output of box and office is written.
 const ODD: &[&str] = &[
     "",
     "    ",
@@ -66,7 +68,7 @@ const ODD: &[&str] = &[
     "use two",
     "use office 2",
     "use all",
-    "use 2 into 37",
+    "use 2 into LEAST",
     "use # 2",
     "use\t2",
     "use 2\r",
@@ -86,12 +88,12 @@ const ODD: &[&str] = &[
     "room 0512",
     "room 0513",
     "room -1",
-    "room +37",
-    "room 37x",
+    "room +LEAST",
+    "room LEASTx",
     "room 3.7",
     "room 0x25",
-    "room 37\r",
-    "room\t37",
+    "room LEAST\r",
+    "room\tLEAST",
     "room 549",
     "room 1024",
     "room 65536",
@@ -99,7 +101,7 @@ const ODD: &[&str] = &[
     "room 4294967333",
     "room 18446744073709551653",
     "room 340282366920938463463374607431768211493",
-    "room # 37",
+    "room # LEAST",
     "restart x",
     "restart 4294967296",
     "restart 4294967297 1",
@@ -235,7 +237,7 @@ const ODD: &[&str] = &[
     "stream-box 1",
     "stream-box 00 zz",
     "stream-office 0x00",
-    "stream-office 00 into 37",
+    "stream-office 00 into LEAST",
     "dropped",
     "dropped 0",
     "dropped x",
@@ -262,7 +264,7 @@ const ODD: &[&str] = &[
     "pieces-box 1 4294967297",
     "pieces-box 1 18446744073709551617",
     "pieces-box 1 3 3",
-    "pieces-box 1 3 into 37",
+    "pieces-box 1 3 into LEAST",
     "pieces-box 18446744073709551617 3",
     "pieces-box 4294967297 0",
     "pieces-office",
@@ -344,10 +346,10 @@ const ODD: &[&str] = &[
     "issue-all raise 1 into x",
     "issue-all raise 1 into 517",
     "issue-all raise 1 into 18446744073709551653",
-    "issue-all raise 1 into 037 # 37",
-    "issue-all raise 1 into 37 37",
+    "issue-all raise 1 into 0LEAST # LEAST",
+    "issue-all raise 1 into LEAST LEAST",
     "issue-all raise x into 517",
-    "issue-all raise 1 / into 37",
+    "issue-all raise 1 / into LEAST",
     "issue-all into",
     "issue-all into 0",
     "issue-all into 516",
@@ -409,7 +411,7 @@ const ODD: &[&str] = &[
     "box-cut 18446744073709551616 x",
     "box-cut 340282366920938463463374607431768211456 / 10",
     "box-cut 9223372036854775808 9223372036854775808",
-    "box-cut 9223372036854775808 9223372036854775808 1 / 10 into 111",
+    "box-cut 9223372036854775808 9223372036854775808 1 / 10 into 516",
     "box-cut 4294967297 / 10",
     "box-cut 65537 / 10",
     "box-cut 257 / 10",
@@ -421,21 +423,15 @@ const ODD: &[&str] = &[
     "0",
 ];
 
-/// Runs with frames that no office wrote.
-const ODD_RUNS: &[&str] = &[
-    "box-all /",
-    "box-all / /",
-    "box-all / into 74",
-    "box-all / into 73",
-    "box-all / / / / / / / into 296",
-    "box-all / / / / / / / into 295",
-    "box-cut 0",
-    "box-cut 0 into 36",
-    "box-cut 0 into 37",
-    "box-cut 0 0 /",
-    "box-cut 01 / 10",
-    "box-cut 0 0 0 0 0 0 0 0",
-    "box-cut 0 0 0 0 0 0 0 0 into 296",
+/// Runs with frames that no office wrote, and how many these are.
+const ODD_RUNS: &[(&str, usize)] = &[
+    ("box-all /", 2),
+    ("box-all / /", 3),
+    ("box-all / / / / / / /", 8),
+    ("box-cut 0", 1),
+    ("box-cut 0 0 /", 2),
+    ("box-cut 01 / 10", 1),
+    ("box-cut 0 0 0 0 0 0 0 0", 8),
 ];
 
 const RAW: &[&[u8]] = &[
@@ -469,14 +465,22 @@ pub fn odd(rng: &mut Rng) -> Vec<u8> {
             let word = rng.pick(&["bus", "stream", "issue-all command"]);
             longest(rng, word)
         }
-        _ => rng.pick(ODD).as_bytes().to_vec(),
+        _ => rng
+            .pick(ODD)
+            .replace("LEAST", &LONGEST_FRAME.to_string())
+            .into_bytes(),
     }
 }
 
 pub fn odd_run(rng: &mut Rng) -> Vec<u8> {
-    match rng.below(10) {
-        0 => longest(rng, "box-all"),
-        _ => rng.pick(ODD_RUNS).as_bytes().to_vec(),
+    if rng.chance(10) {
+        return longest(rng, "box-all");
+    }
+    let (run, count) = rng.pick(ODD_RUNS);
+    // With the output of `room`, with enough of its own, or with one byte less.
+    match rng.below(3) {
+        0 => run.as_bytes().to_vec(),
+        less => format!("{run} into {}", count * LONGEST_FRAME + 1 - less).into_bytes(),
     }
 }
 
@@ -497,7 +501,7 @@ pub fn explain(rng: &mut Rng) -> String {
         0 => rng.number() as u32 as u64,
         1 => rng.pick(&[65535, 65536, 4_294_967_294, 4_294_967_295]),
         2 => rng.pick(&[4_294_967_296, 4_294_967_303, u64::MAX]),
-        _ => rng.below(40) as u64,
+        _ => rng.below(LONGEST_FRAME + 3) as u64,
     };
     // Mostly as an answer tells it.
     if (number >= 14) != rng.chance(15) {

@@ -1,14 +1,16 @@
 //! What the random scripts meet, and that they are shortened well.
 
+mod calibration;
+
 use std::collections::{BTreeMap, BTreeSet};
 
 use reference::cab::Open;
 use reference::fault::{Fault, Wrong};
-use reference::link::{End, Frame, Order};
+use reference::link::{End, Frame, LONGEST_FRAME, Order};
 use reference::office::Office;
 use reference::refusal::Refusal;
 use reference::script::{Answer, Heard, ParseError, Simulation};
-use reference::settings::Settings;
+use reference::settings::{BLOCK, Settings};
 use reference::stream::Came;
 
 use super::*;
@@ -136,7 +138,7 @@ fn every_fault_is_met_at_every_offset() {
         (false, 15, &[0, 7]),
         (false, 16, &[0, 7]),
         (false, 17, &[0, 7]),
-        (false, 18, &[8, 9, 37]),
+        (false, 18, &[8, 9, LONGEST_FRAME]),
         (false, 19, &[0]),
     ] {
         for offset in offsets {
@@ -248,7 +250,7 @@ fn every_bad_content_is_met() {
             [0x12, 6, 0, _, _, _, _, 0, 0, ..] => {
                 number_0.extend(fault_of(&answer).map(|fault| (at_box, fault.offset)));
             }
-            [0x11, 4, 0, .., _] if frame.len() == 37 && !at_box => {
+            [0x11, 4, 0, .., _] if frame.len() == LONGEST_FRAME && !at_box => {
                 // The one byte that is at fault.
                 let good = |place: &usize| {
                     let mut frame = frame.clone();
@@ -256,7 +258,7 @@ fn every_bad_content_is_met() {
                     Frame::from_bytes(&frame).is_some()
                 };
                 if Frame::from_bytes(&frame).is_none() {
-                    settings.extend((0..27).find(good).map(|place| (place, frame[10 + place])));
+                    settings.extend((0..BLOCK).find(good).map(|place| (place, frame[10 + place])));
                 }
             }
             _ => {}
@@ -274,6 +276,12 @@ fn every_bad_content_is_met() {
         (14, 2),
         (11, 255),
         (8, 255),
+        (23, 2),
+        (23, 3),
+        (23, 255),
+        (32, 4),
+        (32, 5),
+        (32, 255),
     ] {
         assert!(settings.contains(&bad), "{bad:?}");
     }
@@ -317,6 +325,7 @@ fn every_form_of_a_description_is_met() {
     let mut lines: BTreeMap<Vec<u8>, usize> = BTreeMap::new();
     let mut described = BTreeSet::new();
     let mut statuses = BTreeSet::new();
+    let mut calibrations = BTreeSet::new();
     for number in 1..120 {
         let mut simulation = Simulation::new();
         for line in generate::script(Rng::new(SEED, number), 3000).lines {
@@ -325,6 +334,13 @@ fn every_form_of_a_description_is_met() {
                     if let Some((_, status)) = words.split_once(", status ") {
                         statuses.insert(status.to_string());
                     }
+                    // At which end, the mode, and the gain.
+                    let parts: Vec<&str> = words.split(", ").collect();
+                    let mode = parts.iter().find(|part| part.ends_with(" mode"));
+                    let gain = parts.iter().find(|part| part.starts_with("sensor gain "));
+                    let pair = mode.zip(gain);
+                    calibrations
+                        .extend(pair.map(|(mode, gain)| (words[..3].to_string(), format!("{mode}, {gain}"))));
                     // Numbers aside, and what is told of the settings.
                     let form = words.split(": ").next().unwrap_or_default();
                     let form = form.replace(" 1 order ", " one order ");
@@ -368,6 +384,15 @@ fn every_form_of_a_description_is_met() {
     ] {
         assert!(statuses.contains(alone), "{alone}");
     }
+    for end in ["box", "off"] {
+        for mode in ["normal mode", "calibration mode"] {
+            for gain in 0..=3 {
+                let told = (end.to_string(), format!("{mode}, sensor gain {gain}"));
+                assert!(calibrations.contains(&told), "{told:?}");
+            }
+        }
+    }
+    assert_eq!(calibrations.len(), 16);
 }
 
 #[test]
@@ -384,7 +409,7 @@ fn rooms_up_to_512_and_beyond_are_met() {
             rooms.insert(simulation.room());
         }
     }
-    for room in [0, 36, 37, 64, 65, 256, 511, 512] {
+    for room in [0, LONGEST_FRAME - 1, LONGEST_FRAME, 64, 65, 256, 511, 512] {
         assert!(rooms.contains(&room), "{room}");
     }
     assert_eq!(rooms.last(), Some(&512));
@@ -501,8 +526,8 @@ fn batches_at_every_limit_are_met() {
                 Answer::Refused(Refusal::ShortOutput) => {
                     let mut before = 0;
                     for (place, item) in items.iter().enumerate() {
-                        if before + 37 > room {
-                            short.insert((place + 1, before + 37 - room));
+                        if before + LONGEST_FRAME > room {
+                            short.insert((place + 1, before + LONGEST_FRAME - room));
                             break;
                         }
                         before += order_length(item);
@@ -518,7 +543,7 @@ fn batches_at_every_limit_are_met() {
                     let last = frames.last().map_or(0, Vec::len);
                     let written: usize = frames.iter().map(Vec::len).sum();
                     issued.insert((unanswered, frames.len()));
-                    if !frames.is_empty() && written - last + 37 == room {
+                    if !frames.is_empty() && written - last + LONGEST_FRAME == room {
                         short.insert((frames.len(), 0));
                     }
                 }
@@ -563,7 +588,7 @@ fn runs_at_every_limit_are_met() {
             };
             match answer.bare() {
                 Answer::Run(run) if !run.is_empty() => {
-                    rooms.insert((first.clone(), count, room as i64 - 37 * count as i64));
+                    rooms.insert((first.clone(), count, room as i64 - (LONGEST_FRAME * count) as i64));
                     for (place, judged) in run.iter().enumerate() {
                         let told = match &judged.answer {
                             Answer::Frame(_) => "ok".to_string(),
@@ -580,7 +605,7 @@ fn runs_at_every_limit_are_met() {
                     }
                 }
                 Answer::Refused(Refusal::ShortOutput) => {
-                    rooms.insert((first.clone(), count, room as i64 - 37 * count as i64));
+                    rooms.insert((first.clone(), count, room as i64 - (LONGEST_FRAME * count) as i64));
                 }
                 Answer::Refused(Refusal::TooMuchData) if first == "box-cut" && count <= 8 => {
                     let lengths = words[..count].iter().map(|word| word.parse::<u64>().unwrap());
@@ -697,11 +722,11 @@ fn pieces_of_every_length_are_met() {
             }
         }
     }
-    // An OPEN is wrapped in 10 bytes, an ACK in 12, a WELCOME in 40.
+    // An OPEN is wrapped in 10 bytes, an ACK in 12, a WELCOME in 50.
     for (first, lengths) in [
         ("pieces-box", [0, 1, 2, 3, 9, 10, 11, 128, 129]),
         ("pieces-office", [0, 1, 2, 3, 11, 12, 13, 128, 129]),
-        ("pieces-office", [4, 5, 39, 40, 41, 64, 127, 128, 130]),
+        ("pieces-office", [4, 5, 49, 50, 51, 64, 127, 128, 130]),
     ] {
         for length in lengths {
             let met = (first.to_string(), length.to_string());
@@ -748,12 +773,12 @@ fn batches_and_runs_in_a_list() {
         "to-box-all 1",
         "to-office 1",
         "issue-all raise 1 / raise 2 / lower 1 into 100",
-        "box-all 12 06 00 03 00 00 00 01 00 22 02 00 01 00 / 10 04 00 03 00 00 00 into 74",
+        "box-all 12 06 00 03 00 00 00 01 00 22 02 00 01 00 / 10 04 00 03 00 00 00 into 94",
         "show",
         // Refused as a whole, so that nothing is asked of its bytes.
-        "box-cut 1 / 10 into 36",
+        "box-cut 1 / 10 into 46",
         "box-cut 1 1 / 10",
-        "box-cut 14 14 / 12 06 00 03 00 00 00 02 00 22 02 00 02 00 12 06 00 03 00 00 00 03 00 23 02 00 01 00 into 80",
+        "box-cut 14 14 / 12 06 00 03 00 00 00 02 00 22 02 00 02 00 12 06 00 03 00 00 00 03 00 23 02 00 01 00 into 100",
         "to-office 5",
         "show",
     ];
@@ -761,7 +786,7 @@ fn batches_and_runs_in_a_list() {
     assert_eq!(covered(&list), Ok(11));
     // Frames that nobody wrote.
     assert_eq!(
-        covered(&[&list[..4], &["box-all 10 into 37", "show"]].concat()),
+        covered(&[&list[..4], &["box-all 10 into 47", "show"]].concat()),
         Ok(4)
     );
     assert_eq!(covered(&[&list[..4], &["box-cut 0", "show"]].concat()), Ok(4));

@@ -1,6 +1,6 @@
 //! Another implementation's lookup of a command byte, from its library: by table as it is now, and by
-//! match as it was before. `lookup check` compares the answers with document 01, `lookup time [CALLS]`
-//! times the calls, `lookup once` makes each call once, to count its instructions.
+//! match. `lookup check` compares the answers with the rows of documents 01 and 02,
+//! `lookup time [CALLS]` times the calls, `lookup once` makes each call once, to count its instructions.
 
 mod time;
 
@@ -71,7 +71,7 @@ fn check() -> ExitCode {
     };
     let differences: Vec<String> = (0..=u8::MAX).filter_map(different).collect();
     if differences.is_empty() {
-        let equal = "256 command bytes: both lookups answer as document 01's nine rows\n";
+        let equal = "256 command bytes: both lookups answer as the fifteen rows of documents 01 and 02\n";
         return told(equal, ExitCode::SUCCESS);
     }
     let mut text = String::new();

@@ -10,7 +10,7 @@ use std::num::NonZeroU64;
 use std::path::Path;
 use std::process::{Command, Output, Stdio};
 
-use reference::lookup::{ROUND, STREAM, STREAM_ROUNDS, Times};
+use reference::lookup::{ROUND, STREAM, STREAM_ROUNDS, Times, commands_with_rows};
 
 use crate::Failure;
 use crate::run;
@@ -83,9 +83,10 @@ fn times(path: &Path, calls: NonZeroU64) -> Result<Vec<(&'static str, Times)>, F
 
 fn print_times(timed: &[(&str, Times)], calls: NonZeroU64) {
     let round = ROUND.min(calls.get());
+    let rows = commands_with_rows().len();
     println!("Calls of the lookup of a command byte through the C ABI, {calls} for each of the 256,");
     println!("in rounds of {round} of one byte, the bytes shuffled anew in each, the functions in turn.");
-    println!("Mixed: {STREAM} bytes in random order, of all and of the 18 whose ID has a row, best of");
+    println!("Mixed: {STREAM} bytes in random order, of all and of the {rows} whose ID has a row, best of");
     println!("{STREAM_ROUNDS} rounds. All times have the loop and the call in them: see the empty function,");
     println!("where any ratio above 1 is the machine's doing.");
     println!();
@@ -110,7 +111,7 @@ fn times_table(timed: &[(&str, Times)]) {
         "slowest",
         "ratio",
         "all mixed",
-        "18 mixed",
+        &format!("{} mixed", commands_with_rows().len()),
     ];
     let table = Table::headed(&headings.map(String::from));
     for (row, times) in timed {

@@ -9,13 +9,13 @@ store-front-requires c κs = search needs
 store-pixels-requires : tie.Need-store-pixels-requires
 store-pixels-requires c κs = search needs
 
-store-status-requires : tie.Need-store-status-requires
-store-status-requires c κs = search needs
+store-end-requires : tie.Need-store-end-requires
+store-end-requires c κs = search needs
 
 returns : tie.Need-returns
 unfolding block
-returns c = rw (c .store-status .ensures, c .before .before .store-pixels .ensures, c .before .before .before .before .store-front .ensures)
+returns c = rw (c .store-end .ensures, c .before .before .store-pixels .ensures, c .before .before .before .before .store-front .ensures)
 
 pub block-spec : {M : Type 1} → statement M
 block-spec =
-    tie.close (tie.spec store-front-requires store-pixels-requires store-status-requires returns)
+    tie.close (tie.spec store-front-requires store-pixels-requires store-end-requires returns)

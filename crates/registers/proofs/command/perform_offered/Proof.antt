@@ -1,4 +1,5 @@
 use borrow.Author.Needs.{needs}
+use borrow.Author.Tests.{eq-eqb}
 use Rattle.base.proofs.Tests.{tests}
 use Rattle.bus.specs.Commands.{perform-offered}
 use Rattle.registers.proofs.command.perform_offered.Statement.{statement}
@@ -22,7 +23,7 @@ execute-requires c κs = search needs
 
 returns-2 : tie.Need-returns-2
 unfolding perform-offered
-returns-2 c = search (needs, tests, c .execute .ensures, ← (c .before .before .request-length .ensures), c .before .before .before .if1 .left, ← (c .before .before .before .before .locked .ensures))
+returns-2 c = simp (c .execute .ensures, ← (c .before .before .before .before .locked .ensures), c .before .before .before .if1 .left, ← (c .before .before .request-length .ensures), eq-eqb _ _ (c .before .if2 .taken))
 
 failed-requires-2 : tie.Need-failed-requires-2
 failed-requires-2 c κs = search needs

@@ -3,11 +3,11 @@ use Rattle.base.proofs.Tests.{tests}
 use Rattle.registers.proofs.fields.area_bytes.Statement.{statement}
 use Rattle.registers.proofs.fields.area_bytes.Tie as tie
 
-point-bytes-requires : tie.Need-point-bytes-requires
-point-bytes-requires c κs = search needs
+pair-bytes-requires : tie.Need-pair-bytes-requires
+pair-bytes-requires c κs = search needs
 
-point-bytes-requires-2 : tie.Need-point-bytes-requires-2
-point-bytes-requires-2 c κs = search needs
+pair-bytes-requires-2 : tie.Need-pair-bytes-requires-2
+pair-bytes-requires-2 c κs = search needs
 
 array-read-t7 : tie.Need-array-read-t7
 array-read-t7 c = search needs
@@ -34,14 +34,14 @@ array-read-t28 : tie.Need-array-read-t28
 array-read-t28 c = search needs
 
 returns : tie.Need-returns
-returns c = search (needs, tests, c .point-bytes2 .ensures, c .before .point-bytes .ensures)
+returns c = search (needs, tests, c .pair-bytes2 .ensures, c .before .pair-bytes .ensures)
 
 pub area-bytes-spec : {M : Type 1} → statement M
 area-bytes-spec =
     tie.close
     (tie.spec
-    point-bytes-requires
-    point-bytes-requires-2
+    pair-bytes-requires
+    pair-bytes-requires-2
     array-read-t7
     array-read-t10
     array-read-t13

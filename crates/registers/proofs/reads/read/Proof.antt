@@ -6,8 +6,8 @@ use Rattle.registers.proofs.reads.read.Tie as tie
 enum-told : tie.Need-enum-told
 enum-told c = search needs
 
-read-backlight-requires : tie.Need-read-backlight-requires
-read-backlight-requires c κs = search needs
+read-level-requires : tie.Need-read-level-requires
+read-level-requires c κs = search needs
 
 enum-told-2 : tie.Need-enum-told-2
 enum-told-2 c = search needs
@@ -60,8 +60,44 @@ enum-told-9 c = search needs
 read-pixels-requires : tie.Need-read-pixels-requires
 read-pixels-requires c κs = search needs
 
+enum-told-10 : tie.Need-enum-told-10
+enum-told-10 c = search needs
+
+read-byte-requires-5 : tie.Need-read-byte-requires-5
+read-byte-requires-5 c κs = search needs
+
+enum-told-11 : tie.Need-enum-told-11
+enum-told-11 c = search needs
+
+read-level-requires-2 : tie.Need-read-level-requires-2
+read-level-requires-2 c κs = search needs
+
+enum-told-12 : tie.Need-enum-told-12
+enum-told-12 c = search needs
+
+read-level-requires-3 : tie.Need-read-level-requires-3
+read-level-requires-3 c κs = search needs
+
+enum-told-13 : tie.Need-enum-told-13
+enum-told-13 c = search needs
+
+read-level-requires-4 : tie.Need-read-level-requires-4
+read-level-requires-4 c κs = search needs
+
+enum-told-14 : tie.Need-enum-told-14
+enum-told-14 c = search needs
+
+read-level-requires-5 : tie.Need-read-level-requires-5
+read-level-requires-5 c κs = search needs
+
+enum-told-15 : tie.Need-enum-told-15
+enum-told-15 c = search needs
+
+read-byte-requires-6 : tie.Need-read-byte-requires-6
+read-byte-requires-6 c κs = search needs
+
 returns : tie.Need-returns
-returns c = search (needs, tests, c .read-backlight .ensures, c .before .enum-told .given .1)
+returns c = search (needs, tests, c .read-level .ensures, c .before .enum-told .given .1)
 
 returns-2 : tie.Need-returns-2
 returns-2 c = search (needs, tests, c .read-byte .ensures, c .before .enum-told2 .given .1)
@@ -87,12 +123,30 @@ returns-8 c = search (needs, tests, c .read-status .ensures, c .before .enum-tol
 returns-9 : tie.Need-returns-9
 returns-9 c = search (needs, tests, c .read-pixels .ensures, c .before .enum-told9 .given .1)
 
+returns-10 : tie.Need-returns-10
+returns-10 c = search (needs, tests, c .read-byte5 .ensures, c .before .enum-told10 .given .1)
+
+returns-11 : tie.Need-returns-11
+returns-11 c = search (needs, tests, c .read-level2 .ensures, c .before .enum-told11 .given .1)
+
+returns-12 : tie.Need-returns-12
+returns-12 c = search (needs, tests, c .read-level3 .ensures, c .before .enum-told12 .given .1)
+
+returns-13 : tie.Need-returns-13
+returns-13 c = search (needs, tests, c .read-level4 .ensures, c .before .enum-told13 .given .1)
+
+returns-14 : tie.Need-returns-14
+returns-14 c = search (needs, tests, c .read-level5 .ensures, c .before .enum-told14 .given .1)
+
+returns-15 : tie.Need-returns-15
+returns-15 c = search (needs, tests, c .read-byte6 .ensures, c .before .enum-told15 .given .1)
+
 pub read-spec : {M : Type 1} → statement M
 read-spec =
     tie.close
     (tie.spec
     enum-told
-    read-backlight-requires
+    read-level-requires
     enum-told-2
     read-byte-requires
     enum-told-3
@@ -110,6 +164,18 @@ read-spec =
     read-status-requires
     enum-told-9
     read-pixels-requires
+    enum-told-10
+    read-byte-requires-5
+    enum-told-11
+    read-level-requires-2
+    enum-told-12
+    read-level-requires-3
+    enum-told-13
+    read-level-requires-4
+    enum-told-14
+    read-level-requires-5
+    enum-told-15
+    read-byte-requires-6
     returns
     returns-2
     returns-3
@@ -118,4 +184,10 @@ read-spec =
     returns-6
     returns-7
     returns-8
-    returns-9)
+    returns-9
+    returns-10
+    returns-11
+    returns-12
+    returns-13
+    returns-14
+    returns-15)

@@ -48,6 +48,30 @@ enum-told-8 c = search needs
 enum-told-9 : tie.Need-enum-told-9
 enum-told-9 c = search needs
 
+enum-told-10 : tie.Need-enum-told-10
+enum-told-10 c = search needs
+
+at-most-requires-6 : tie.Need-at-most-requires-6
+at-most-requires-6 c κs = search needs
+
+enum-told-11 : tie.Need-enum-told-11
+enum-told-11 c = search needs
+
+enum-told-12 : tie.Need-enum-told-12
+enum-told-12 c = search needs
+
+enum-told-13 : tie.Need-enum-told-13
+enum-told-13 c = search needs
+
+enum-told-14 : tie.Need-enum-told-14
+enum-told-14 c = search needs
+
+enum-told-15 : tie.Need-enum-told-15
+enum-told-15 c = search needs
+
+at-most-requires-7 : tie.Need-at-most-requires-7
+at-most-requires-7 c κs = search needs
+
 returns : tie.Need-returns
 returns c = search needs
 
@@ -75,6 +99,24 @@ returns-8 c = search needs
 returns-9 : tie.Need-returns-9
 returns-9 c = search needs
 
+returns-10 : tie.Need-returns-10
+returns-10 c = search (needs, tests, c .at-most6 .ensures, c .before .enum-told10 .given .1)
+
+returns-11 : tie.Need-returns-11
+returns-11 c = search needs
+
+returns-12 : tie.Need-returns-12
+returns-12 c = search needs
+
+returns-13 : tie.Need-returns-13
+returns-13 c = search needs
+
+returns-14 : tie.Need-returns-14
+returns-14 c = search needs
+
+returns-15 : tie.Need-returns-15
+returns-15 c = search (needs, tests, c .at-most7 .ensures, c .before .enum-told15 .given .1)
+
 pub accepts-spec : {M : Type 1} → statement M
 accepts-spec =
     tie.close
@@ -94,6 +136,14 @@ accepts-spec =
     signs-accepted-requires
     enum-told-8
     enum-told-9
+    enum-told-10
+    at-most-requires-6
+    enum-told-11
+    enum-told-12
+    enum-told-13
+    enum-told-14
+    enum-told-15
+    at-most-requires-7
     returns
     returns-2
     returns-3
@@ -102,4 +152,10 @@ accepts-spec =
     returns-6
     returns-7
     returns-8
-    returns-9)
+    returns-9
+    returns-10
+    returns-11
+    returns-12
+    returns-13
+    returns-14
+    returns-15)

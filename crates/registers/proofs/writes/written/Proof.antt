@@ -54,6 +54,42 @@ enum-told-9 c = search needs
 area-from-requires : tie.Need-area-from-requires
 area-from-requires c κs = search needs
 
+enum-told-10 : tie.Need-enum-told-10
+enum-told-10 c = search needs
+
+byte-requires-5 : tie.Need-byte-requires-5
+byte-requires-5 c κs = search needs
+
+enum-told-11 : tie.Need-enum-told-11
+enum-told-11 c = search needs
+
+le16-requires-2 : tie.Need-le16-requires-2
+le16-requires-2 c κs = search needs
+
+enum-told-12 : tie.Need-enum-told-12
+enum-told-12 c = search needs
+
+le16-requires-3 : tie.Need-le16-requires-3
+le16-requires-3 c κs = search needs
+
+enum-told-13 : tie.Need-enum-told-13
+enum-told-13 c = search needs
+
+le16-requires-4 : tie.Need-le16-requires-4
+le16-requires-4 c κs = search needs
+
+enum-told-14 : tie.Need-enum-told-14
+enum-told-14 c = search needs
+
+le16-requires-5 : tie.Need-le16-requires-5
+le16-requires-5 c κs = search needs
+
+enum-told-15 : tie.Need-enum-told-15
+enum-told-15 c = search needs
+
+byte-requires-6 : tie.Need-byte-requires-6
+byte-requires-6 c κs = search needs
+
 returns : tie.Need-returns
 returns c = search (needs, tests, c .le16 .ensures, c .before .enum-told .given .1)
 
@@ -81,6 +117,24 @@ returns-8 c = search (needs, tests, c .enum-told8 .given .1)
 returns-9 : tie.Need-returns-9
 returns-9 c = search (needs, tests, c .area-from .ensures, c .before .enum-told9 .given .1)
 
+returns-10 : tie.Need-returns-10
+returns-10 c = search (needs, tests, c .byte5 .ensures, c .before .enum-told10 .given .1)
+
+returns-11 : tie.Need-returns-11
+returns-11 c = search (needs, tests, c .le162 .ensures, c .before .enum-told11 .given .1)
+
+returns-12 : tie.Need-returns-12
+returns-12 c = search (needs, tests, c .le163 .ensures, c .before .enum-told12 .given .1)
+
+returns-13 : tie.Need-returns-13
+returns-13 c = search (needs, tests, c .le164 .ensures, c .before .enum-told13 .given .1)
+
+returns-14 : tie.Need-returns-14
+returns-14 c = search (needs, tests, c .le165 .ensures, c .before .enum-told14 .given .1)
+
+returns-15 : tie.Need-returns-15
+returns-15 c = search (needs, tests, c .byte6 .ensures, c .before .enum-told15 .given .1)
+
 pub written-spec : {M : Type 1} → statement M
 written-spec =
     tie.close
@@ -102,6 +156,18 @@ written-spec =
     enum-told-8
     enum-told-9
     area-from-requires
+    enum-told-10
+    byte-requires-5
+    enum-told-11
+    le16-requires-2
+    enum-told-12
+    le16-requires-3
+    enum-told-13
+    le16-requires-4
+    enum-told-14
+    le16-requires-5
+    enum-told-15
+    byte-requires-6
     returns
     returns-2
     returns-3
@@ -110,4 +176,10 @@ written-spec =
     returns-6
     returns-7
     returns-8
-    returns-9)
+    returns-9
+    returns-10
+    returns-11
+    returns-12
+    returns-13
+    returns-14
+    returns-15)

@@ -27,15 +27,20 @@ const RELIEF: [&str; 13] = [
     "to-box 6",
 ];
 
-/// What is broken after these lines and others that the book is not told of.
+/// What is broken after the relief and lines that the book is not told of.
 fn broken_by(hidden: &[&str]) -> &'static str {
+    broken(&RELIEF, hidden)
+}
+
+/// What is broken after these lines and others that the book is not told of.
+fn broken(lines: &[&str], hidden: &[&str]) -> &'static str {
     let mut simulation = Simulation::new();
     let mut book = Book::new();
     let mut told = |simulation: &mut Simulation, line: &str| {
         let answer = simulation.line(line.as_bytes()).expect("each line is a call");
         follow(&mut book, simulation, line.as_bytes(), answer.bare())
     };
-    for line in RELIEF {
+    for line in lines {
         assert!(told(&mut simulation, line).is_ok(), "{line}");
     }
     for line in hidden {
@@ -100,12 +105,77 @@ fn what_the_book_is_not_told_is_noticed() {
 }
 
 #[test]
+fn one_register_trimmed_otherwise_is_noticed() {
+    let orders = [
+        "C8 01", "CA 01 02", "CC 03 04", "CE 05 06", "D0 07 08", "D2 01", "C8 01",
+    ];
+    let mut list = vec![
+        "open 3".to_string(),
+        "to-box 1".to_string(),
+        "to-office 1".to_string(),
+    ];
+    for (index, order) in (2..).zip(orders) {
+        list.extend([format!("command {order}"), format!("to-box {index}")]);
+    }
+    let list: Vec<&str> = list.iter().map(String::as_str).collect();
+    // The box starts anew, and takes the same orders; of one of them the data are others.
+    let again = |place: usize, order: &str| {
+        let mut orders = orders;
+        orders[place] = order;
+        let mut lines = vec!["restart 2".to_string(), "to-box 1".to_string()];
+        for (number, order) in (1..).zip(orders) {
+            let length = order.split(' ').count();
+            let head = format!("12 06 00 03 00 00 00 0{number} 00 21 0{length} 00");
+            lines.push(format!("box {head} {order}"));
+        }
+        let lines: Vec<&str> = lines.iter().map(String::as_str).collect();
+        broken(&list, &lines)
+    };
+    assert_eq!(again(0, "C8 01"), "nothing");
+    for (place, order) in [
+        (1, "CA 01 03"),
+        (2, "CC 04 04"),
+        (3, "CE 05 07"),
+        (4, "D0 06 08"),
+        (5, "D2 03"),
+        (6, "C8 00"),
+    ] {
+        assert_eq!(
+            again(place, order),
+            "the box's settings are not the fresh ones after the orders taken, session by session",
+            "{order}"
+        );
+    }
+    // And in the office's own copy, where the frame written is another too.
+    for order in ["CA 01 03", "D2 03", "C8 00"] {
+        let mut simulation = Simulation::new();
+        let mut book = Book::new();
+        for line in &list {
+            let answer = simulation.line(line.as_bytes()).expect("each line is a call");
+            assert!(follow(&mut book, &simulation, line.as_bytes(), answer.bare()).is_ok());
+        }
+        let answer = simulation.line(format!("command {order}").as_bytes());
+        let answer = answer.expect("each line is a call");
+        let told = follow(&mut book, &simulation, b"command CA 01 02", answer.bare());
+        assert!(
+            matches!(
+                told,
+                Err(Stop::Broken(
+                    "an office's settings are not WELCOME's after the orders issued"
+                ))
+            ),
+            "{order}"
+        );
+    }
+}
+
+#[test]
 fn lists_of_several_offices() {
     let covered = |lines: &[&str]| closing_sentences(&lines_of(lines));
     let behind = [
         // Late frames of session 3, their REFUSEs to both offices, answers of session 4 to the other one.
         "to-box 4",
-        "to-box-all 1 2 6 into 111",
+        "to-box-all 1 2 6 into 141",
         "to-office 6",
         "use 1",
         "to-office 4",
@@ -135,7 +205,7 @@ fn lists_of_several_offices() {
         }
     }
     // A refused opening names none.
-    let refused = ["room 36", "open 5", "room 37", "use 3", "open 5", "show"];
+    let refused = ["room 46", "open 5", "room 47", "use 3", "open 5", "show"];
     let lines = [&RELIEF[..], &refused].concat();
     assert_eq!(covered(&lines), Ok(lines.len()));
 }

@@ -1,14 +1,15 @@
 //! Batches of orders at the office, and the outputs that batches and runs are lent.
 
+use reference::link::LONGEST_FRAME;
 use reference::office::{Office, WINDOW};
 
 use super::Generator;
 use crate::lines;
 
-/// What an order or a frame of a run asks to be lent.
-pub(super) const ASKED: usize = 37;
 const MOST_ROOM: usize = 512;
 const MOST_LENT: usize = 516;
+/// The length of an ORDER to raise or lower.
+const RAISE: usize = 14;
 
 impl Generator {
     pub(super) fn batch(&mut self) {
@@ -50,7 +51,7 @@ impl Generator {
         for (place, item) in items.iter().enumerate() {
             line.extend_from_slice(if place == 0 { b" " } else { b" / " });
             line.extend(item);
-            limits.push(before + ASKED);
+            limits.push(before + LONGEST_FRAME);
             before += order_length(item);
         }
         self.emit_lent(line, &limits);
@@ -76,7 +77,9 @@ impl Generator {
                 above.saturating_sub(1)
             }
             3 => self.rng.below(enough + 1),
-            4 => self.rng.pick(&[0, 36, 37, 511, 512, 513, 516]),
+            4 => self
+                .rng
+                .pick(&[0, LONGEST_FRAME - 1, LONGEST_FRAME, 511, 512, 513, 516]),
             _ => self.rng.pick(&[516, 516, 517, 518, 772, 65536]),
         };
         match self.rng.weighted(&[60, 28, 12]) {
@@ -87,8 +90,10 @@ impl Generator {
                 }
                 self.emit(line);
                 // Not for long, where single calls fail of it.
-                if length < ASKED && self.rng.chance(60) {
-                    let room = self.rng.pick(&[37, 64, 135, 296, 512]);
+                if length < LONGEST_FRAME && self.rng.chance(60) {
+                    let of_raises = (WINDOW - 1) * RAISE + LONGEST_FRAME;
+                    let of_a_run = WINDOW * LONGEST_FRAME;
+                    let room = self.rng.pick(&[LONGEST_FRAME, 64, of_raises, of_a_run, 512]);
                     self.emit(format!("room {room}"));
                 }
             }
@@ -126,6 +131,6 @@ fn order_length(item: &[u8]) -> usize {
     if item.starts_with(b"command") {
         9 + 3 + words - 1
     } else {
-        9 + 3 + 2
+        RAISE
     }
 }

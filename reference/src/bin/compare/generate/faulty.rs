@@ -13,7 +13,7 @@ const SHORTEST_LONG: usize = 300;
 impl Generator {
     pub(super) fn faulty(&mut self) {
         let end = self.rng.pick(&[End::Box, End::Office]);
-        match self.rng.weighted(&[684, 290, 10, 2, 16]) {
+        match self.rng.weighted(&[684, 290, 10, 4, 16]) {
             0 => {
                 let frame = self.faulty_frame(end);
                 self.emit_frame(end, &frame);

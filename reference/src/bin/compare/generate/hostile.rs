@@ -1,6 +1,6 @@
 //! Frames that no end wrote.
 
-use reference::link::End;
+use reference::link::{End, LONGEST_FRAME};
 
 use super::{Generator, word};
 use crate::frames::{self, Aim};
@@ -71,7 +71,7 @@ impl Generator {
                 frames::damaged(&mut self.rng, frame)
             }
             2 => {
-                let length = self.rng.below(45);
+                let length = self.rng.below(LONGEST_FRAME + 8);
                 self.rng.bytes(length)
             }
             4 => Vec::new(),

@@ -1,22 +1,25 @@
 //! Calls at both ends, over a link that loses, repeats and reorders frames.
 
-use reference::link::End;
+use reference::link::{End, LONGEST_FRAME};
 use reference::office::Office;
 use reference::rng::Rng;
 use reference::script::{Answer, Log};
 use reference::traffic;
 
 use super::{Generator, Kind, Pace};
+use crate::frames::calibration;
 use crate::lines;
 
 impl Generator {
     pub(super) fn link(&mut self) {
-        if self.simulation.room() < 37 && self.rng.chance(15) {
-            let room = self.rng.pick(&[37, 37, 38, 64, 512]);
+        if self.simulation.room() < LONGEST_FRAME && self.rng.chance(15) {
+            let room = self
+                .rng
+                .pick(&[LONGEST_FRAME, LONGEST_FRAME, LONGEST_FRAME + 1, 64, 512]);
             self.emit(format!("room {room}"));
             return;
         }
-        if self.offices > 1 && self.rng.chance(14) {
+        if self.offices > 1 && self.rng.chance(17) {
             self.several_offices();
             return;
         }
@@ -42,7 +45,7 @@ impl Generator {
         };
         match self
             .rng
-            .weighted(&[to_box, to_office, issue, resend, open, reopen, 5, 14])
+            .weighted(&[to_box, to_office, issue, resend, open, reopen, 5, 14, 11])
         {
             0 if self.rng.chance(18) => self.run(),
             0 => {
@@ -61,15 +64,21 @@ impl Generator {
                 self.emit("reopen");
             }
             6 => self.restart(),
-            _ => self.room(),
+            7 => self.room(),
+            _ => self.trim(),
         }
     }
 
     fn room(&mut self) {
+        let least = LONGEST_FRAME;
+        let untrimmed = least - calibration().len();
         let room = match self.rng.weighted(&[30, 35, 20, 15]) {
-            0 => self.rng.pick(&[37, 37, 38, 50, 64, 65]),
-            1 => self.rng.pick(&[0, 1, 7, 9, 14, 29, 36, 36]),
-            2 => self.rng.pick(&[256, 293, 511, 512, 512, 513, 514]),
+            0 => self.rng.pick(&[least, least, least + 1, 60, 64, 65]),
+            // For an OPEN, an ACK, an ORDER, for a WELCOME without calibration, but not for all frames.
+            1 => self
+                .rng
+                .pick(&[0, 1, 7, 9, 14, 29, untrimmed, least - 1, least - 1]),
+            2 => self.rng.pick(&[256, 256 + least, 511, 512, 512, 513, 514]),
             _ => self.rng.below(530),
         };
         self.emit(format!("room {room}"));
@@ -166,8 +175,10 @@ impl Generator {
     /// The line that issues an order, or an item of a batch.
     pub(super) fn order(&mut self) -> Vec<u8> {
         let settings = self.simulation.office().settings().copied();
-        if settings.is_some_and(|settings| !settings.master) && self.rng.chance(35) {
-            return b"command 02 01".to_vec();
+        let master_off = settings.is_some_and(|settings| !settings.master);
+        if self.rng.chance(if master_off { 30 } else { 2 }) {
+            let switch = if master_off { "01" } else { "00" };
+            return format!("command 02 {switch}").into_bytes();
         }
         if self.rng.chance(12) {
             // Offsets other than 0 first: then it shows if a refused write takes a part.
@@ -176,6 +187,11 @@ impl Generator {
                 _ => vec![0x05, 0x00, 0x00, 0x07, 0x00, 0x01],
             };
             return lines::hex(&mut self.rng, "command", &[&[0x50], &data[..]].concat());
+        }
+        if self.rng.chance(if master_off { 40 } else { 15 }) {
+            let in_mode = settings.is_some_and(|settings| settings.calibration);
+            let (command, data) = traffic::trimming(&mut self.rng, in_mode);
+            return lines::hex(&mut self.rng, "command", &[&[command], &data[..]].concat());
         }
         if self.rng.chance(55) {
             let most = self.rng.pick(&[17, 17, 18, 40, 255, 300]);

@@ -1,5 +1,6 @@
 //! The longest session.
 
+use reference::link::LONGEST_FRAME;
 use reference::rng::Rng;
 
 use super::{Generator, Kind, Script};
@@ -29,16 +30,13 @@ pub fn longest_session(rng: Rng) -> Script {
             generator.look_at_kept();
         }
     }
-    for line in [
-        "show",
-        "describe",
-        "raise 1",
-        "room 36",
-        "raise 1",
-        "room 37",
-        "command 00",
-        "resend 65527",
-    ] {
+    for line in ["show", "describe", "raise 1"] {
+        generator.emit(line);
+    }
+    generator.emit(format!("room {}", LONGEST_FRAME - 1));
+    generator.emit("raise 1");
+    generator.emit(format!("room {LONGEST_FRAME}"));
+    for line in ["command 00", "resend 65527"] {
         generator.emit(line);
     }
     generator.emit(format!("command 00{}", " 00".repeat(17)));
@@ -100,10 +98,21 @@ pub fn longest_by_pages(rng: Rng) -> Script {
 
 impl Generator {
     fn short_order(&mut self) -> String {
-        match self.rng.below(3) {
-            0 => format!("raise {}", self.rng.below(1000)),
-            1 => format!("lower {}", self.rng.below(1000)),
-            _ => format!("command 4C {:02X}", self.rng.below(4)),
+        match self.rng.below(6) {
+            0 | 1 => format!("raise {}", self.rng.below(1000)),
+            2 | 3 => format!("lower {}", self.rng.below(1000)),
+            4 => format!("command 4C {:02X}", self.rng.below(4)),
+            _ => {
+                let (mode, gain) = (self.rng.below(2), self.rng.below(4));
+                self.rng
+                    .pick(&[
+                        &format!("command C8 {mode:02X}")[..],
+                        &format!("command D2 {gain:02X}"),
+                        "command CC A5 5A",
+                        "command CE 5A A5",
+                    ])
+                    .to_string()
+            }
         }
     }
 
@@ -119,7 +128,7 @@ impl Generator {
         }
         let mut items = vec!["raise 1".to_string(); count];
         self.emit(format!("issue-all {}", items.join(" / ")));
-        let length = 14 * left + 37;
+        let length = 14 * left + LONGEST_FRAME;
         for length in [length - 1, length, 516] {
             self.emit(format!("issue-all {} into {length}", items.join(" / ")));
         }

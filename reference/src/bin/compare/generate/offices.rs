@@ -1,6 +1,6 @@
 //! Several offices at one box: relief, late frames of overtaken sessions, frames to the wrong office.
 
-use reference::link::End;
+use reference::link::{End, LONGEST_FRAME};
 use reference::office::{Office, WINDOW};
 use reference::script::OFFICES;
 
@@ -149,7 +149,7 @@ impl Generator {
     }
 
     /// Opens a session above all others at the office in use, and mostly brings it to work.
-    fn begin(&mut self) {
+    pub(super) fn begin(&mut self) {
         self.enough_room();
         let (_, _, next) = self.sessions();
         let above = self.rng.pick(&[0, 0, 0, 1, 3]);
@@ -160,9 +160,9 @@ impl Generator {
         }
     }
 
-    fn enough_room(&mut self) {
-        if self.simulation.room() < 37 {
-            let room = self.rng.pick(&[37, 64, 512]);
+    pub(super) fn enough_room(&mut self) {
+        if self.simulation.room() < LONGEST_FRAME {
+            let room = self.rng.pick(&[LONGEST_FRAME, 64, 512]);
             self.emit(format!("room {room}"));
         }
     }

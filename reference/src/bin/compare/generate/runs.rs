@@ -1,10 +1,9 @@
 //! Runs of frames to the box.
 
 use reference::cab;
-use reference::link::{End, Frame, Order};
+use reference::link::{End, Frame, LONGEST_FRAME, Order};
 use reference::traffic;
 
-use super::batches::ASKED;
 use super::link::next_frame;
 use super::{Generator, Kind};
 use crate::frames;
@@ -252,5 +251,5 @@ impl Generator {
 
 /// What a run of one frame less asks to be lent, and what this one does.
 fn limits(count: usize) -> [usize; 2] {
-    [count.saturating_sub(1), count].map(|count| ASKED * count)
+    [count.saturating_sub(1), count].map(|count| LONGEST_FRAME * count)
 }

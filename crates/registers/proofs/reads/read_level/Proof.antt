@@ -1,7 +1,7 @@
 use borrow.Author.Needs.{needs}
 use Rattle.base.proofs.Tests.{tests}
-use Rattle.registers.proofs.reads.read_backlight.Statement.{statement}
-use Rattle.registers.proofs.reads.read_backlight.Tie as tie
+use Rattle.registers.proofs.reads.read_level.Statement.{statement}
+use Rattle.registers.proofs.reads.read_level.Tie as tie
 
 low-requires : tie.Need-low-requires
 low-requires c κs = search needs
@@ -18,7 +18,7 @@ success-requires c κs = search needs
 returns : tie.Need-returns
 returns c = search (needs, tests, c .success .ensures, c .before .before .high .ensures, c .before .before .before .low .ensures)
 
-pub read-backlight-spec : {M : Type 1} → statement M
-read-backlight-spec =
+pub read-level-spec : {M : Type 1} → statement M
+read-level-spec =
     tie.close
     (tie.spec low-requires high-requires slice-aggregate-success success-requires returns)
