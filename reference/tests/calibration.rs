@@ -528,20 +528,22 @@ fn every_other_register_is_the_same_in_either_mode() {
             assert_eq!(reply, expected, "ID {id:02X}h");
         }
     }
-    let writes = [
-        ("A5 00 02 B8 88 42", "01"),
-        ("A5 04 01 01 06", "01"),
-        ("A5 4A 01 01 4C", "01"),
-        ("A5 4C 01 02 4F", "01"),
-        ("A5 4E 03 01 02 64 B8", "01"),
-        ("A5 50 06 05 00 00 07 00 01 63", "01"),
-        ("A5 A6 08 01 00 02 00 03 00 04 00 B8", "01"),
-    ];
     let mut controller = trimmed();
-    all_answer(&mut controller, &writes);
+    all_answer(&mut controller, &UNTRIMMED);
     all_answer(&mut controller, &TRIMMED);
     answers(&mut controller, STATUS, NO_STATUS);
 }
+
+/// A write of each register that calibration is not about, master aside.
+const UNTRIMMED: [(&str, &str); 7] = [
+    ("A5 00 02 B8 88 42", "01"),
+    ("A5 04 01 01 06", "01"),
+    ("A5 4A 01 01 4C", "01"),
+    ("A5 4C 01 02 4F", "01"),
+    ("A5 4E 03 01 02 64 B8", "01"),
+    ("A5 50 06 05 00 00 07 00 01 63", "01"),
+    ("A5 A6 08 01 00 02 00 03 00 04 00 B8", "01"),
+];
 
 /// The settings block of a fresh controller.
 const FRESH_BLOCK: &str = "00 00 01 00 00 00 00 00 00 00 00 01 00 00 01 00 00 00 00 00 00 00 00 \
@@ -550,19 +552,8 @@ const FRESH_BLOCK: &str = "00 00 01 00 00 00 00 00 00 00 00 01 00 00 01 00 00 00
 #[test]
 fn the_block_by_hand() {
     let mut controller = trimmed();
-    all_answer(
-        &mut controller,
-        &[
-            ("A5 00 02 B8 88 42", "01"),
-            ("A5 04 01 01 06", "01"),
-            ("A5 4A 01 01 4C", "01"),
-            ("A5 4C 01 02 4F", "01"),
-            ("A5 4E 03 01 02 64 B8", "01"),
-            ("A5 50 06 05 00 00 07 00 01 63", "01"),
-            ("A5 A6 08 01 00 02 00 03 00 04 00 B8", "01"),
-            ("A5 D2 01 04 D7", "07"),
-        ],
-    );
+    all_answer(&mut controller, &UNTRIMMED);
+    answers(&mut controller, "A5 D2 01 04 D7", "07");
     let by_hand = [
         "B8 88 01 01 01 02",
         "01 02 64",

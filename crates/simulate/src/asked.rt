@@ -27,7 +27,7 @@ pub(crate) enum Holder {
     Office,
 }
 
-// The registers of one byte.
+// The switches of the settings.
 pub(crate) enum Switch {
     Master,
     Park,
@@ -35,6 +35,7 @@ pub(crate) enum Switch {
     Strength,
 }
 
+// The calibration registers.
 pub(crate) enum Calibrated {
     Mode,
     Red,
