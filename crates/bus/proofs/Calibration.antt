@@ -9,24 +9,23 @@ use mathlib.Core.Logic.{_⊎_, inl, inr}
 use lib.Dec.{T, eqb, leb}
 use borrow.Author.Tests.{eqb-true, eq-eqb, ne-eqb, le-leb, lt-leb}
 use Rattle.base.proofs.Tests.{cond-cases, all-below, below-each}
-use Rattle.packet.specs.declared.writer.Access.the-variants.{Write}
+use Rattle.packet.specs.declared.writer.Access.the-variants.{Write, Read}
 use Rattle.settings.specs.declared.settings.Settings.{Settings}
 use Rattle.settings.specs.declared.settings.Flag.the-variants.{NotAvailable}
 use Rattle.settings.specs.Settings.{flagged, cleared, with-mode}
 use Rattle.settings.proofs.StatusLaws.{cleared-flagged}
 use Rattle.bus.specs.declared.command.CommandRow.{CommandRow}
+use Rattle.bus.specs.declared.command.Register.the-variants.{CalibrationMode}
+use Rattle.bus.specs.declared.command.Ways.the-variants.{ReadWrite}
+use Rattle.bus.specs.declared.command.ModeRight.the-variants.{MasterOn}
 use Rattle.bus.specs.declared.command.Lookup.{Lookup}
 use Rattle.bus.specs.declared.command.Lookup.the-variants.{Found, Unknown}
 use Rattle.bus.specs.AsWritten.{Row, table, find, master-off, out-of-mode}
-use Rattle.bus.specs.Commands.{command-rows, find-row, lookup, offers, locked, written, failed, perform-offered, perform-found, perform-looked-up, perform}
-use Rattle.bus.specs.CommandTheorems.{
-  Alike,
-  known,
-  Requested,
-}
-use Rattle.bus.specs.CalibrationTheorems.{MasterOff, OfLevels, LevelsGuarded, LevelsRefused, CalibrationKept, LevelsKept}
+use Rattle.bus.specs.Commands.{command-row, command-rows, find-row, lookup, access, offers, locked, written, failed, perform-offered, perform-found, perform-looked-up, perform}
+use Rattle.bus.specs.CommandTheorems.{Alike, known, Requested}
+use Rattle.bus.specs.CalibrationTheorems.{MasterOff, OfLevels, LevelsGuarded, LevelsRefused, ModeWritten, ReadInEitherMode, CalibrationKept, LevelsKept}
 use Rattle.bus.proofs.CommandTable.{_&_, table-alike}
-use Rattle.bus.proofs.Effect.{command-keeps}
+use Rattle.bus.proofs.Effect.{perform-writes, perform-reads, command-keeps}
 
 -- ---- what holds of every row holds of the row found
 
@@ -154,3 +153,25 @@ levels-refused σ k d of asked when = by-cases (lookup (k / 2)) refl (levels-off
 
     by-cases : (l : Lookup) → lookup (k / 2) ≡ l → T (offered l) → perform-looked-up l σ k d ≡ failed σ NotAvailable 0x04
     by-cases (Found row) found t = rw asked (simp (holds (offers row Write) t, locks σ k of row found when))
+
+-- ---- what is not refused for the mode
+
+pub mode-written : ModeWritten
+unfolding lookup access
+mode-written σ mode on fits = perform-writes σ 0xC8 (mode ∷ []) row passed (le-leb mode 1 fits)
+  where
+    row : CommandRow
+    row = command-row 0x64 CalibrationMode ReadWrite 1 MasterOn
+
+    passed : Requested σ 0xC8 (mode ∷ []) row Write
+    passed = record { available = record { known = record { found = refl; asked = refl }; offered = refl; unlocked = ne-eqb _ _ on }; whole = refl }
+
+read-available : (σ : Settings) (k : ℕ) {o : Option Row} {row : CommandRow} → Alike (k / 2) o (Found row) → (MasterOff σ → ⊥) →
+    (offers row Read ≡ true) × (locked σ row Read ≡ false)
+read-available σ k (known paper row at told) on = (told .reads, told .read-available σ ∙ simp (ne-eqb (σ .switches .master) 0 on))
+
+pub read-in-either-mode : ReadInEitherMode
+read-in-either-mode σ k row found asked on =
+    let free = read-available σ k (subst (Alike (k / 2) (find (k / 2) table)) found (table-alike (k / 2))) on in
+    perform-reads σ k [] row
+    (record { available = record { known = record { found = found; asked = asked }; offered = free .0; unlocked = free .1 }; whole = refl })

@@ -1,13 +1,17 @@
 -- What is proved of the calibration registers, 64h to 69h: document 02, Ask 6.
 use Prim.Native.Nat.{ℕ, _/_, _≤_, _<_}
 use mathlib.Core.Path.{_≡_}
-use mathlib.Core.List.{List}
+use mathlib.Core.List.{List, [], _∷_}
 use mathlib.Core.Logic.{_⊎_}
-use Rattle.packet.specs.declared.writer.Access.the-variants.{Write}
+use Rattle.packet.specs.declared.writer.Access.the-variants.{Write, Read}
 use Rattle.settings.specs.declared.settings.Settings.{Settings}
 use Rattle.settings.specs.declared.settings.Flag.the-variants.{NotAvailable}
 use Rattle.settings.specs.Settings.{cleared, with-mode}
-use Rattle.bus.specs.Commands.{access, failed, perform}
+use Rattle.bus.specs.declared.command.CommandRow.{CommandRow}
+use Rattle.bus.specs.declared.command.Lookup.the-variants.{Found}
+use Rattle.bus.specs.declared.command.Register.the-variants.{CalibrationMode}
+use Rattle.bus.specs.Commands.{lookup, access, failed, read-register, perform}
+use Rattle.bus.specs.CommandTheorems.{write-performed}
 
 abbrev pub InCalibration : Settings → Type 0
 InCalibration σ = σ .calibration .mode ≡ 0 → ⊥
@@ -30,6 +34,18 @@ abbrev pub LevelsRefused : Type 0
 LevelsRefused =
     (σ : Settings) (k : ℕ) (d : List ℕ) → OfLevels k → access k ≡ Write → (σ .calibration .mode ≡ 0) ⊎ MasterOff σ →
     perform σ k d ≡ failed σ NotAvailable 0x04
+
+-- 64h is not: while master is on it takes 0 and 1 in either mode
+abbrev pub ModeWritten : Type 0
+ModeWritten =
+    (σ : Settings) (mode : ℕ) → (MasterOff σ → ⊥) → mode ≤ 1 →
+    perform σ 0xC8 (mode ∷ []) ≡ write-performed σ CalibrationMode (mode ∷ [])
+
+-- nor is any read
+abbrev pub ReadInEitherMode : Type 0
+ReadInEitherMode =
+    (σ : Settings) (k : ℕ) (row : CommandRow) → lookup (k / 2) ≡ Found row → access k ≡ Read → (MasterOff σ → ⊥) →
+    perform σ k [] ≡ read-register σ (row .id) (row .register)
 
 -- a command of another ID, master's too, keeps the mode, the levels and the gain
 abbrev pub CalibrationKept : Type 0
