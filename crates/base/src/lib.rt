@@ -1,4 +1,6 @@
 // What every layer uses: why a call refused, what one answers that writes, and a run of bytes stored at a place.
+#![tactic(auto)]
+
 mod place;
 mod refusal;
 mod written;

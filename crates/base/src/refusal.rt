@@ -1,9 +1,9 @@
 // The refusals, and their numbers in documents 01 and 02.
 ghost use Rattle.std.specs.Prelude.{◌≡◌};
-ghost use Rattle.base.specs.Refusal.{number as number_of_lem, fault_number};
+ghost use Rattle.base.specs.Refusal.{number as number_of, fault_number};
 
 // Why a call refused.
-#[derive(Drop)]
+#[derive(Clone, Copy)]
 pub enum Refusal {
     OutputTooShort,
     DataTooLong,
@@ -22,7 +22,7 @@ pub enum Refusal {
 }
 
 // What is wrong with a frame.
-#[derive(Drop)]
+#[derive(Clone, Copy)]
 pub enum FrameFault {
     Truncated,
     UnexpectedTag,
@@ -34,7 +34,7 @@ pub enum FrameFault {
 
 impl Refusal {
     pub fn number(self) -> u8
-        ensures { result ≡ number_of_lem self }
+        ensures { result ≡ number_of self }
     {
         match self {
             Refusal::OutputTooShort => 1,

@@ -1,4 +1,6 @@
 // The batches of orders and runs of frames of demand 3's list, at the code's own box and at one office.
+#![tactic(auto)]
+
 ghost use Rattle.std.specs.Prelude.{◌≡◌, length};
 ghost use Rattle.std.proofs.Common.{inl, inr};
 ghost use Rattle.outcome.specs.Batch.{orders_of};
@@ -11,7 +13,7 @@ use outcome::{OrderBatch, Parts};
 use session::{Cab, Office, Pair};
 
 // The frames of all parts stand one after another at the start of the output.
-#[derive(Drop)]
+#[derive(Clone, Copy)]
 pub struct Answered {
     pub ends: Pair,
     pub verdict: Verdict,

@@ -1,10 +1,12 @@
 // A stand-in for the test bench: reads the host's bytes from standard input, and writes to standard output the byte
 // that the controller sends for each, until the input ends.
+#![tactic(auto)]
+
 use bus::Controller;
 use controller::exchange_all;
 use libc::{STDIN_FILENO, STDOUT_FILENO};
 
-#[derive(Drop)]
+#[derive(Clone, Copy)]
 struct Turn {
     controller: Controller,
     goes_on: bool,

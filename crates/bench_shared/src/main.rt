@@ -1,5 +1,7 @@
 // `bench` in a program that also works out an order without a controller, as the office of `simulate` does, so that the
 // commands' code has a second caller. It is there to be measured: docs/COMPARISON.md.
+#![tactic(auto)]
+
 use bus::Controller;
 use controller::exchange_all;
 use frame::{Change, DATA_LIMIT};

@@ -4,7 +4,7 @@ ghost use Rattle.bus.specs.Commands as spec;
 
 use settings::Settings;
 
-#[derive(Drop)]
+#[derive(Clone, Copy)]
 pub enum Register {
     Backlight,
     Master,
@@ -24,14 +24,14 @@ pub enum Register {
 }
 
 // Which ways of access a register has.
-#[derive(Drop)]
+#[derive(Clone, Copy)]
 pub enum Ways {
     ReadWrite,
     ReadOnly,
 }
 
 // When a register's commands are available (mode right): at any time; while master is on; or while master is on and, to a write, in calibration mode.
-#[derive(Drop)]
+#[derive(Clone, Copy)]
 pub enum ModeRight {
     Always,
     MasterOn,
@@ -39,7 +39,7 @@ pub enum ModeRight {
 }
 
 // A row of the command table. The count is that of a write's data, and of the data in a read's reply.
-#[derive(Drop)]
+#[derive(Clone, Copy)]
 pub struct CommandRow {
     pub id: u8,
     pub register: Register,
@@ -49,7 +49,7 @@ pub struct CommandRow {
 }
 
 // What an ID stands for.
-#[derive(Drop)]
+#[derive(Clone, Copy)]
 pub enum Lookup {
     Found(CommandRow),
     Unknown,
@@ -59,13 +59,13 @@ pub enum Lookup {
 pub const REPLY_LIMIT: usize = 11;
 
 // A reply: the first len of the bytes.
-#[derive(Drop)]
+#[derive(Clone, Copy)]
 pub struct ReplyBytes {
     pub bytes: [u8; REPLY_LIMIT],
     pub len: u8,
 }
 
-#[derive(Drop)]
+#[derive(Clone, Copy)]
 pub struct Performed {
     pub settings: Settings,
     pub reply: ReplyBytes,

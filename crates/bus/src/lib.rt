@@ -1,4 +1,6 @@
 // What the stand-in controller holds. The rules of its byte exchange and of its commands are in specs/, the code that keeps them in controller and registers.
+#![tactic(auto)]
+
 mod command;
 
 ghost use Rattle.std.specs.Prelude.{◌≡◌};
@@ -10,7 +12,7 @@ pub use command::{
 use settings::Settings;
 
 // What the next byte of an open packet is. Data holds how many data bytes are left.
-#[derive(Drop)]
+#[derive(Clone, Copy)]
 pub enum Phase {
     Idle,
     Command,
@@ -20,7 +22,7 @@ pub enum Phase {
 }
 
 // The open packet's fields so far, and the sum of its bytes modulo 256.
-#[derive(Drop)]
+#[derive(Clone, Copy)]
 pub struct Collected {
     pub command: u8,
     pub count: u8,
@@ -29,14 +31,14 @@ pub struct Collected {
 }
 
 // A reply on its way out: its first len bytes, of which sent are out.
-#[derive(Drop)]
+#[derive(Clone, Copy)]
 pub struct Outgoing {
     pub bytes: [u8; REPLY_LIMIT],
     pub len: u8,
     pub sent: u8,
 }
 
-#[derive(Drop)]
+#[derive(Clone, Copy)]
 pub struct Controller {
     pub phase: Phase,
     pub escape: bool,
@@ -45,7 +47,7 @@ pub struct Controller {
     pub settings: Settings,
 }
 
-#[derive(Drop)]
+#[derive(Clone, Copy)]
 pub struct Exchanged {
     pub controller: Controller,
     pub out: u8,

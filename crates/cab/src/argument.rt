@@ -3,7 +3,7 @@ use text::DecimalRead;
 
 const HIGHEST_MOST: u64 = u32::MAX as u64;
 
-#[derive(Drop)]
+#[derive(Clone, Copy)]
 pub(crate) enum Given {
     Highest(u32),
     Wrong,

@@ -1,5 +1,7 @@
 // The cab box behind a pipe: reads wrapped frames from standard input as they come, whatever the pieces, and writes the box's answer to
 // each, wrapped, to standard output at once. Its argument is the highest session ever opened at the box; none means 0.
+#![tactic(auto)]
+
 mod argument;
 mod messages;
 
@@ -13,7 +15,7 @@ use stream::WRAPPED_MOST;
 use wrapping::{Event, Received, Receiver};
 
 // The box behind its receiver, and how many lengths that has refused.
-#[derive(Drop)]
+#[derive(Clone, Copy)]
 struct Station {
     cab: Cab,
     receiver: Receiver,

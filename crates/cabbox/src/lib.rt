@@ -1,4 +1,6 @@
 // The cab box: it holds the controller, and takes each order of the open session once and in its turn.
+#![tactic(auto)]
+
 mod obey;
 
 ghost use Rattle.std.specs.Prelude.{◌≡◌, cond, eqb, length, ◌≤◌};
@@ -19,14 +21,14 @@ use obey::obey;
 use session::Cab;
 
 // What a frame in gives. A frame of len bytes was written at the start of the output.
-#[derive(Drop)]
+#[derive(Clone, Copy)]
 pub struct Answered {
     pub cab: Cab,
     pub verdict: Verdict,
     pub len: usize,
 }
 
-#[derive(Drop)]
+#[derive(Clone, Copy)]
 struct Turn {
     cab: Cab,
     verdict: Verdict,

@@ -1,4 +1,6 @@
 // Any single call of demand 3's list, run at the code's own box and at one office. Its batches and runs of frames are in batch_calls.
+#![tactic(auto)]
+
 ghost use Rattle.std.specs.Prelude.{◌≡◌, length};
 ghost use Rattle.session.specs.OneOffice.{pair_rules};
 ghost use Rattle.calls.specs.View as view;
@@ -7,7 +9,7 @@ use frame::{Ask, OrderNumber, SessionId, Verdict};
 use receiving::Received;
 use session::{Cab, Office, Pair};
 
-#[derive(Drop)]
+#[derive(Clone, Copy)]
 pub enum Call {
     Restart(SessionId),
     BoxFrame,
@@ -19,7 +21,7 @@ pub enum Call {
 }
 
 // A frame of len bytes was written at the start of the output.
-#[derive(Drop)]
+#[derive(Clone, Copy)]
 pub struct Answered {
     pub ends: Pair,
     pub verdict: Verdict,

@@ -1,5 +1,7 @@
 // The command table, and the row of a command byte found by its ID. The rows are constants that a match picks by their number, and the index is packed into
 // words: the compiler makes tables of both, in the program's constant data, where it would write a constant array to the stack anew for each lookup.
+#![tactic(auto)]
+
 ghost use Rattle.std.specs.Prelude.{◌≡◌, ◌/◌};
 ghost use Rattle.bus.specs.Commands.{lookup};
 ghost use Rattle.command_table.specs.Index.{paper_number, row_at, index_word};

@@ -11,7 +11,7 @@ use registers::perform;
 use settings::{Flag, Settings, StatusBytes};
 
 // A controller but for its two arrays and its settings, of which it has the status bits.
-#[derive(Drop)]
+#[derive(Clone, Copy)]
 pub struct BusState {
     pub phase: Phase,
     pub escape: bool,
@@ -24,7 +24,7 @@ pub struct BusState {
 }
 
 // What a byte leads to: the next state, or the end of a packet, told by its checksum byte out of its escape.
-#[derive(Drop)]
+#[derive(Clone, Copy)]
 pub enum Step {
     Next(BusState),
     Checksum(u8),

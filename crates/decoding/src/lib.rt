@@ -1,4 +1,6 @@
 // Bytes of the adjustment link to frames, or to what is wrong with them.
+#![tactic(auto)]
+
 mod fault;
 mod read;
 

@@ -9,17 +9,17 @@ use base::{Refusal, store};
 use settings::Settings;
 
 // Two types, so that a session and an order's number cannot be exchanged.
-#[derive(Drop)]
+#[derive(Clone, Copy)]
 pub struct SessionId(pub u32);
 
-#[derive(Drop)]
+#[derive(Clone, Copy)]
 pub struct OrderNumber(pub u16);
 
 // A command's most data bytes.
 pub const DATA_LIMIT: usize = 16;
 
 // What an order asks for. A command's data stand beside it, in Change: the check does not cover an enum that holds an array.
-#[derive(Drop)]
+#[derive(Clone, Copy)]
 pub enum Ask {
     Command(u8),
     Raise(u16),
@@ -27,7 +27,7 @@ pub enum Ask {
 }
 
 // The data of a command are the first count bytes of body.
-#[derive(Drop)]
+#[derive(Clone, Copy)]
 pub struct Change {
     pub ask: Ask,
     pub count: u8,
@@ -35,13 +35,13 @@ pub struct Change {
 }
 
 // What became of a change asked for. A refused one leaves a raise by 0.
-#[derive(Drop)]
+#[derive(Clone, Copy)]
 pub struct ChangeMade {
     pub verdict: Verdict,
     pub change: Change,
 }
 
-#[derive(Drop)]
+#[derive(Clone, Copy)]
 pub enum Kind {
     Malformed,
     Opening,
@@ -53,7 +53,7 @@ pub enum Kind {
 }
 
 // What a kind does not have is left at zero, or at fresh settings. The number is an order's, or the acknowledged count.
-#[derive(Drop)]
+#[derive(Clone, Copy)]
 pub struct Frame {
     pub kind: Kind,
     pub session: SessionId,

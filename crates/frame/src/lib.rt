@@ -1,4 +1,6 @@
 // Frames of the adjustment link by value, and the verdict on one.
+#![tactic(auto)]
+
 mod frame;
 mod verdict;
 

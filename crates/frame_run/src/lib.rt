@@ -1,4 +1,6 @@
 // A run of frames at the cab box: one call takes up to eight, each judged alone from the box that the earlier ones left.
+#![tactic(auto)]
+
 ghost use Rattle.std.specs.Prelude.{◌≡◌, ◌+◌, ◌-◌, ◌≤◌, length, take, drop};
 ghost use Rattle.judging.specs.declared.End.TheVariants.{Box};
 ghost use Rattle.judging.specs.Decoding.{decode};
@@ -14,7 +16,7 @@ use outcome::{BATCH_LIMIT, Part, Parts};
 use session::Cab;
 
 // What a run of frames gives. The answers stand one after another at the start of the output.
-#[derive(Drop)]
+#[derive(Clone, Copy)]
 pub struct Answered {
     pub cab: Cab,
     pub verdict: Verdict,
@@ -22,7 +24,7 @@ pub struct Answered {
 }
 
 // A run after some of its frames: where the next one begins, and how much of the output is written.
-#[derive(Drop)]
+#[derive(Clone, Copy)]
 struct Running {
     cab: Cab,
     parts: Parts,

@@ -1,4 +1,6 @@
 // At the office: issuing the next order.
+#![tactic(auto)]
+
 ghost use Rattle.std.specs.Prelude.{◌≡◌, false, ◌-◌, ◌≤◌, length};
 ghost use Rattle.std.proofs.Math.Option.{none, map};
 ghost use Rattle.frame.specs.Frame as frames;

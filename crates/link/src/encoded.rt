@@ -14,7 +14,7 @@ use registers::BLOCK;
 pub const FRAME_LIMIT: usize = 10 + BLOCK;
 
 // The frame is the first len bytes.
-#[derive(Drop)]
+#[derive(Clone, Copy)]
 pub struct Encoded {
     pub bytes: [u8; FRAME_LIMIT],
     pub len: usize,
@@ -61,7 +61,7 @@ impl Encoded {
 }
 
 // What was written to a lent output: the first len bytes, none where it was too short.
-#[derive(Drop)]
+#[derive(Clone, Copy)]
 pub struct Sent {
     pub verdict: Verdict,
     pub len: usize,

@@ -1,4 +1,6 @@
 // Frames of the adjustment link to bytes.
+#![tactic(auto)]
+
 mod encoded;
 mod encoder;
 pub mod tag;

@@ -7,7 +7,7 @@ ghost use Rattle.lookup_bench.specs.ByMatch as spec;
 use crate::answer::row_answer;
 use bus::{CommandRow, ModeRight, Register, Ways};
 
-#[derive(Drop)]
+#[derive(Clone, Copy)]
 pub(crate) enum Matched {
     Known(Register),
     Nothing,

@@ -1,5 +1,7 @@
 // The lookup of a command byte for a program in another language to time: as it is, and as it would be without a table. Both answer
 // the row in one number, as specs/Answer.antt says.
+#![tactic(auto)]
+
 mod answer;
 mod by_match;
 

@@ -7,7 +7,7 @@ use frame::{Frame, Verdict};
 use session::Office;
 
 // A frame of len bytes was written at the start of the output.
-#[derive(Drop)]
+#[derive(Clone, Copy)]
 pub struct Answered {
     pub office: Office,
     pub verdict: Verdict,

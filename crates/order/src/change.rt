@@ -10,7 +10,7 @@ use number::{high, low};
 use packet::{Packet, build};
 
 // A command and its data, the first count bytes of body.
-#[derive(Drop)]
+#[derive(Clone, Copy)]
 pub struct Resolved {
     pub command: u8,
     pub count: usize,

@@ -1,4 +1,6 @@
 // What an order does: the packet that the box sends for it, and the settings after it.
+#![tactic(auto)]
+
 mod change;
 mod effect;
 

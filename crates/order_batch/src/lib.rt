@@ -1,4 +1,6 @@
 // At the office: issuing a batch of orders, all or none.
+#![tactic(auto)]
+
 ghost use Rattle.std.specs.Prelude.{◌≡◌, ◌-◌, ◌≤◌, min, length};
 ghost use Rattle.frame.specs.View.{asked_as};
 ghost use Rattle.outcome.specs.Batch.{batch_limit, data_lengths, changes, orders_of};
@@ -12,7 +14,7 @@ use outcome::{BATCH_LIMIT, BatchOrder, OrderBatch, Part, Parts, lengths_fit};
 use session::Office;
 
 // What a batch gives. The frames stand one after another at the start of the output.
-#[derive(Drop)]
+#[derive(Clone, Copy)]
 pub struct Answered {
     pub office: Office,
     pub verdict: Verdict,
@@ -23,7 +25,7 @@ pub struct Answered {
 const FRAMES_LIMIT: usize = BATCH_LIMIT * FRAME_LIMIT;
 
 // What the orders so far gave. Their frames are the first written bytes of a buffer; a refused order leaves none.
-#[derive(Drop)]
+#[derive(Clone, Copy)]
 struct Issued {
     office: Office,
     verdict: Verdict,
@@ -32,7 +34,7 @@ struct Issued {
 }
 
 // How far a batch is: what its orders gave, and how many of the bytes were their data.
-#[derive(Drop)]
+#[derive(Clone, Copy)]
 struct Round {
     issued: Issued,
     used: usize,

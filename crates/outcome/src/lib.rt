@@ -1,4 +1,6 @@
 // What a call with several parts is lent and returns: a batch of orders at the office, a run of frames at the box.
+#![tactic(auto)]
+
 ghost use Rattle.std.specs.Prelude.{◌≡◌};
 ghost use Rattle.outcome.specs.Batch as batch;
 
@@ -8,28 +10,28 @@ use frame::{Ask, Verdict};
 pub const BATCH_LIMIT: usize = 8;
 
 // An order of a batch. Its data are len of the bytes lent beside the batch, behind those of the orders before it.
-#[derive(Drop)]
+#[derive(Clone, Copy)]
 pub struct BatchOrder {
     pub ask: Ask,
     pub len: usize,
 }
 
 // So many orders for one call. Of more than fit, only the count can be told.
-#[derive(Drop)]
+#[derive(Clone, Copy)]
 pub struct OrderBatch {
     pub count: usize,
     pub orders: [BatchOrder; BATCH_LIMIT],
 }
 
 // What became of one order of a batch, or of one frame of a run, and the length of the frame that it wrote.
-#[derive(Drop)]
+#[derive(Clone, Copy)]
 pub struct Part {
     pub verdict: Verdict,
     pub len: usize,
 }
 
 // The parts of a batch or a run. Places past the count tell nothing.
-#[derive(Drop)]
+#[derive(Clone, Copy)]
 pub struct Parts {
     pub count: usize,
     pub each: [Part; BATCH_LIMIT],

@@ -17,7 +17,7 @@ const START: u8 = 0xA5;
 const ESCAPE: u8 = 0x5A;
 
 // A packet's first len bytes.
-#[derive(Drop)]
+#[derive(Clone, Copy)]
 pub struct Packet {
     pub bytes: [u8; PACKET_LIMIT],
     pub len: usize,

@@ -1,4 +1,6 @@
 // Packets on the bus: by value, and as the writer writes them.
+#![tactic(auto)]
+
 mod builder;
 mod sum;
 mod writer;

@@ -9,7 +9,7 @@ use crate::builder::{DATA_MOST, Packet, build};
 use base::{Refusal, Written, store};
 
 // Whether a command writes a register or reads it: document 01's "way".
-#[derive(Drop)]
+#[derive(Clone, Copy)]
 pub enum Access {
     Write,
     Read,

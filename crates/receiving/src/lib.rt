@@ -1,4 +1,6 @@
 // Frames from the box, at the office.
+#![tactic(auto)]
+
 ghost use Rattle.std.specs.Prelude.{◌≡◌, cond, ◌||◌, eqb};
 ghost use Rattle.frame.specs.View.{meaning};
 ghost use Rattle.judging.specs.View.{fault_of};
@@ -12,7 +14,7 @@ use session::{Office, Stage};
 use settings::Settings;
 use starting::{is_awaiting, is_live};
 
-#[derive(Drop)]
+#[derive(Clone, Copy)]
 pub struct Received {
     pub office: Office,
     pub verdict: Verdict,

@@ -1,4 +1,6 @@
 // The registers in bytes: what each command does to the settings, and the settings block.
+#![tactic(auto)]
+
 mod block_bytes;
 mod command;
 mod fields;

@@ -1,4 +1,6 @@
 // The reader of the controller's replies.
+#![tactic(auto)]
+
 mod reader;
 
 pub use reader::{Reply, ReplyRead, read_reply};

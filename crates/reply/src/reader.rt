@@ -7,7 +7,7 @@ use base::Refusal;
 use packet::{Access, checksum};
 
 // A reply found in bytes: its data are bytes[start..start + count], and it ends before bytes[end].
-#[derive(Drop)]
+#[derive(Clone, Copy)]
 pub struct Reply {
     pub response: u8,
     pub start: usize,
@@ -15,7 +15,7 @@ pub struct Reply {
     pub end: usize,
 }
 
-#[derive(Drop)]
+#[derive(Clone, Copy)]
 pub enum ReplyRead {
     Whole(Reply),
     Refused(Refusal),

@@ -1,4 +1,6 @@
 // At the office: opening a session, and sending again, each as the same frame.
+#![tactic(auto)]
+
 ghost use Rattle.std.specs.Prelude.{◌≡◌, ◌≤◌, length};
 ghost use Rattle.std.proofs.Math.Option.{some};
 ghost use Rattle.frame.specs.Frame as frames;

@@ -1,11 +1,13 @@
 // What both ends of the adjustment link hold. Their rules are in specs/; the calls that keep them, in starting, cabbox, frame_run, office, sending,
 // issuing, order_batch and receiving.
+#![tactic(auto)]
+
 use bus::Controller;
 use frame::{Change, OrderNumber, SessionId};
 use settings::Settings;
 
 // The cab box. The highest session is the highest opened, or told at a restart; while active, it is the open one, and taken counts its orders run.
-#[derive(Drop)]
+#[derive(Clone, Copy)]
 pub struct Cab {
     pub controller: Controller,
     pub highest: SessionId,
@@ -14,7 +16,7 @@ pub struct Cab {
 }
 
 // Where the office stands with its session. In document 01's words: never opened, opening, open, over.
-#[derive(Drop)]
+#[derive(Clone, Copy)]
 pub enum Stage {
     Unopened,
     Awaiting,
@@ -28,14 +30,14 @@ pub const WINDOW_LIMIT: usize = 8;
 // The last order's number.
 pub const ORDER_LIMIT: u16 = 65535;
 
-#[derive(Drop)]
+#[derive(Clone, Copy)]
 pub struct Order {
     pub number: OrderNumber,
     pub change: Change,
 }
 
 // The office. The settings are its own copy, after all orders issued. The window holds the orders issued and not confirmed.
-#[derive(Drop)]
+#[derive(Clone, Copy)]
 pub struct Office {
     pub stage: Stage,
     pub session: SessionId,
@@ -46,7 +48,7 @@ pub struct Office {
 }
 
 // How far the office is with its session: document 01's word. Settled: the box has taken every order issued.
-#[derive(Drop)]
+#[derive(Clone, Copy)]
 pub enum Progress {
     Settled,
     Waiting,
@@ -54,7 +56,7 @@ pub enum Progress {
 }
 
 // A box and one office.
-#[derive(Drop)]
+#[derive(Clone, Copy)]
 pub struct Pair {
     pub cab: Cab,
     pub office: Office,

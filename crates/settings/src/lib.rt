@@ -1,4 +1,6 @@
 // The settings that a controller holds, their status bits, and which of them are in range.
+#![tactic(auto)]
+
 mod range;
 mod settings;
 

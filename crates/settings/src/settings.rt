@@ -3,7 +3,7 @@ ghost use Rattle.std.specs.Prelude.{◌≡◌, ◌<◌};
 ghost use Rattle.settings.specs.Settings as spec;
 
 // Registers of one byte: master, park, splash mode and drive strength.
-#[derive(Drop)]
+#[derive(Clone, Copy)]
 pub struct Switches {
     pub master: u8,
     pub park: u8,
@@ -11,21 +11,21 @@ pub struct Switches {
     pub strength: u8,
 }
 
-#[derive(Drop)]
+#[derive(Clone, Copy)]
 pub struct HeaterDrive {
     pub khz: u16,
     pub duty: u8,
 }
 
 // Bezel offsets: below zero is left or up.
-#[derive(Drop)]
+#[derive(Clone, Copy)]
 pub struct Offsets {
     pub horizontal: i32,
     pub vertical: i32,
 }
 
 // Test pixels from (x0, y0) to (x1, y1).
-#[derive(Drop)]
+#[derive(Clone, Copy)]
 pub struct Area {
     pub x0: u16,
     pub y0: u16,
@@ -34,7 +34,7 @@ pub struct Area {
 }
 
 // Calibration mode, the PWM levels of the three lamps and of the current limit, and the sensor gain.
-#[derive(Drop)]
+#[derive(Clone, Copy)]
 pub struct Calibration {
     pub mode: u8,
     pub red: u16,
@@ -44,7 +44,7 @@ pub struct Calibration {
     pub gain: u8,
 }
 
-#[derive(Drop)]
+#[derive(Clone, Copy)]
 pub struct StatusBytes {
     pub first: u8,
     pub second: u8,
@@ -52,7 +52,7 @@ pub struct StatusBytes {
     pub fourth: u8,
 }
 
-#[derive(Drop)]
+#[derive(Clone, Copy)]
 pub struct Settings {
     pub backlight: u16,
     pub switches: Switches,
@@ -64,7 +64,7 @@ pub struct Settings {
 }
 
 // The status bits that this controller sets.
-#[derive(Drop)]
+#[derive(Clone, Copy)]
 pub enum Flag {
     Incomplete,
     NotAvailable,

@@ -6,21 +6,21 @@ use crate::frames::GIVEN;
 use packet::PACKET_LIMIT;
 use text::{DecimalRead, HexByte};
 
-#[derive(Drop)]
+#[derive(Clone, Copy)]
 pub(crate) enum NumberRead {
     Of(u64),
     Wrong(Fault),
 }
 
 // How many bytes were read, and where the first word stands that is none.
-#[derive(Drop)]
+#[derive(Clone, Copy)]
 pub(crate) struct Given {
     pub len: usize,
     pub end: usize,
 }
 
 // How a line ends: in `into N`, or not; or in something wrong.
-#[derive(Drop)]
+#[derive(Clone, Copy)]
 pub(crate) enum Ending {
     Of(Lent),
     Wrong(Fault),

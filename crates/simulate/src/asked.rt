@@ -7,7 +7,7 @@ use judging::End;
 use packet::Access;
 
 // What can be wrong with a line.
-#[derive(Drop)]
+#[derive(Clone, Copy)]
 pub(crate) enum Fault {
     TooLong,
     NotACall,
@@ -22,7 +22,7 @@ pub(crate) enum Fault {
 }
 
 // Whose settings are told, or whose receiver is given bytes.
-#[derive(Drop)]
+#[derive(Clone, Copy)]
 pub(crate) enum Holder {
     Bench,
     Box,
@@ -30,7 +30,7 @@ pub(crate) enum Holder {
 }
 
 // The switches of the settings.
-#[derive(Drop)]
+#[derive(Clone, Copy)]
 pub(crate) enum Switch {
     Master,
     Park,
@@ -39,7 +39,7 @@ pub(crate) enum Switch {
 }
 
 // The calibration registers.
-#[derive(Drop)]
+#[derive(Clone, Copy)]
 pub(crate) enum Calibrated {
     Mode,
     Red,
@@ -49,7 +49,7 @@ pub(crate) enum Calibrated {
     Gain,
 }
 
-#[derive(Drop)]
+#[derive(Clone, Copy)]
 pub(crate) enum Register {
     Backlight,
     Switch(Switch),
@@ -61,7 +61,7 @@ pub(crate) enum Register {
 }
 
 // What is told of both ends and of the bench.
-#[derive(Drop)]
+#[derive(Clone, Copy)]
 pub(crate) enum Told {
     Show,
     Describe,
@@ -71,14 +71,14 @@ pub(crate) enum Told {
 }
 
 // What is printed of the bytes that the controller on the bench sends: all, or the reply among them.
-#[derive(Drop)]
+#[derive(Clone, Copy)]
 pub(crate) enum Heard {
     All,
     Reply(Access),
 }
 
 // What is made of the bytes given alone.
-#[derive(Drop)]
+#[derive(Clone, Copy)]
 pub(crate) enum Made {
     Packet(u8, Access),
     Reply(Access),
@@ -90,7 +90,7 @@ pub(crate) enum Made {
 }
 
 // What only prints.
-#[derive(Drop)]
+#[derive(Clone, Copy)]
 pub(crate) enum Said {
     Nothing,
     Wrong(Fault),
@@ -101,7 +101,7 @@ pub(crate) enum Said {
 }
 
 // What changes something, and is no call at box or office alone.
-#[derive(Drop)]
+#[derive(Clone, Copy)]
 pub(crate) enum Task {
     Many(u16),
     Room(usize),
@@ -112,7 +112,7 @@ pub(crate) enum Task {
 }
 
 // What concerns the offices that are not in use too.
-#[derive(Drop)]
+#[derive(Clone, Copy)]
 pub(crate) enum OfficesTask {
     // The office of this number.
     Use(usize),
@@ -120,7 +120,7 @@ pub(crate) enum OfficesTask {
 }
 
 // What a batch of orders, or a run of frames, is made of.
-#[derive(Drop)]
+#[derive(Clone, Copy)]
 pub(crate) enum Several {
     Orders,
     Frames,
@@ -130,7 +130,7 @@ pub(crate) enum Several {
     Cut,
 }
 
-#[derive(Drop)]
+#[derive(Clone, Copy)]
 pub(crate) enum Action {
     Call(Call),
     // The arguments stand in the line.
@@ -141,20 +141,20 @@ pub(crate) enum Action {
 }
 
 // The output that a call is lent: as long as `room` says, or as long as `into` at the line's end says.
-#[derive(Drop)]
+#[derive(Clone, Copy)]
 pub(crate) enum Lent {
     Room,
     Into(usize),
 }
 
 // Bytes of the memory.
-#[derive(Drop)]
+#[derive(Clone, Copy)]
 pub(crate) struct Range {
     pub from: usize,
     pub len: usize,
 }
 
-#[derive(Drop)]
+#[derive(Clone, Copy)]
 pub(crate) struct Asked {
     pub action: Action,
     pub bytes: Range,

@@ -119,7 +119,7 @@ fn counted(lengths: &[usize], count: usize) -> &[usize] {
 }
 
 // The notes when parts are told, and the place in the output behind their frames.
-#[derive(Drop)]
+#[derive(Clone, Copy)]
 struct Telling {
     notes: Notes,
     at: usize,

@@ -6,7 +6,7 @@ use calls::Call;
 use judging::End;
 use text::DecimalRead;
 
-#[derive(Drop)]
+#[derive(Clone, Copy)]
 pub(crate) enum FrameRead {
     Of(Range),
     Wrong(Fault),

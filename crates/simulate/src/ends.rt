@@ -9,7 +9,7 @@ use judging::End;
 use link::FRAME_LIMIT;
 use session::Pair;
 
-#[derive(Drop)]
+#[derive(Clone, Copy)]
 pub(crate) struct Called {
     pub ends: Pair,
     pub notes: Notes,

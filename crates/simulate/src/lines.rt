@@ -35,7 +35,7 @@ pub(crate) fn read(s: &[u8], notes: Notes, memory: &mut Memory) -> Asked {
 }
 
 // The office's calls that take a number.
-#[derive(Drop)]
+#[derive(Clone, Copy)]
 enum OfficeCall {
     Raise,
     Lower,
@@ -165,7 +165,7 @@ fn decode_at(end: End, s: &[u8], memory: &mut Memory) -> Asked {
 }
 
 // The calls that say whether to write or to read.
-#[derive(Drop)]
+#[derive(Clone, Copy)]
 enum Accessing {
     Packet,
     Reply,
@@ -276,7 +276,7 @@ fn command(s: &[u8], memory: &mut Memory) -> Asked {
     }
 }
 
-#[derive(Drop)]
+#[derive(Clone, Copy)]
 enum Way {
     Of(Access),
     Unknown,

@@ -1,5 +1,7 @@
 // Plays a script from standard input: a line is a call at the cab box, at an office or at a controller on the bench, or
 // a frame carried from one end to the other. It prints what each call answered, and whether that is what the line expects.
+#![tactic(auto)]
+
 mod arguments;
 mod asked;
 mod batches;
@@ -33,7 +35,7 @@ use offices::Played;
 use world::Notes;
 
 // How many bytes were read, and whether the input has ended.
-#[derive(Drop)]
+#[derive(Clone, Copy)]
 struct Input {
     len: usize,
     over: bool,

@@ -10,21 +10,21 @@ use wrapping::Receiver;
 pub(crate) const OFFICES: usize = 8;
 
 // An office, and its receiver.
-#[derive(Drop)]
+#[derive(Clone, Copy)]
 struct KeptOffice {
     office: Office,
     receiver: Receiver,
 }
 
 // Office n has the place n modulo 8. What stands in the place of the one in use is out of date.
-#[derive(Drop)]
+#[derive(Clone, Copy)]
 pub(crate) struct Offices {
     kept: [KeptOffice; OFFICES],
     in_use: usize,
 }
 
 // All that a script's lines change.
-#[derive(Drop)]
+#[derive(Clone, Copy)]
 pub(crate) struct Played {
     pub world: World,
     pub offices: Offices,

@@ -41,7 +41,7 @@ fn number_at(numbers: &[u64], i: usize) -> u64 {
 }
 
 // The place behind what is printed, and the number that comes next.
-#[derive(Drop)]
+#[derive(Clone, Copy)]
 struct Place {
     at: usize,
     next: usize,

@@ -3,7 +3,7 @@ use crate::arguments::which;
 use crate::asked::{Action, Asked, Calibrated, Fault, Holder, Register, Said, Switch, Told};
 use crate::{arguments, asked};
 
-#[derive(Drop)]
+#[derive(Clone, Copy)]
 enum Found {
     Of(Register),
     Unknown,

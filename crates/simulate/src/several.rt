@@ -12,7 +12,7 @@ use outcome::{BATCH_LIMIT, BatchOrder, OrderBatch};
 use text::HexByte;
 
 // The orders of a line, how many bytes it gives, and how it ends.
-#[derive(Drop)]
+#[derive(Clone, Copy)]
 pub(crate) struct OrdersRead {
     pub batch: OrderBatch,
     pub len: usize,
@@ -25,7 +25,7 @@ const COUNTED: usize = 2 * BATCH_LIMIT;
 pub(crate) type Lengths = [usize; COUNTED];
 
 // The lengths of a line's frames, how many bytes it gives, and how it ends.
-#[derive(Drop)]
+#[derive(Clone, Copy)]
 pub(crate) struct FramesRead {
     pub lengths: Lengths,
     pub count: usize,
@@ -34,14 +34,14 @@ pub(crate) struct FramesRead {
 }
 
 // An order, the place in the line behind it, and what is wrong if something else than an item stands there.
-#[derive(Drop)]
+#[derive(Clone, Copy)]
 struct OrderGiven {
     order: BatchOrder,
     end: usize,
     otherwise: Fault,
 }
 
-#[derive(Drop)]
+#[derive(Clone, Copy)]
 enum OrderRead {
     Of(OrderGiven),
     Wrong(Fault),

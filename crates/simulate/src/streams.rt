@@ -33,7 +33,7 @@ pub(crate) fn dropped(out: &mut Output, at: usize, count: u32) -> usize {
 }
 
 // What changes while a receiver takes the bytes that a line gives: those before `at` are taken.
-#[derive(Drop)]
+#[derive(Clone, Copy)]
 struct Flow {
     called: Called,
     receiver: Receiver,

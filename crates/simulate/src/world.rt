@@ -8,7 +8,7 @@ use wrapping::Receiver;
 // The longest output that `room` lends.
 pub(crate) const ROOM_LIMIT: usize = 512;
 
-#[derive(Drop)]
+#[derive(Clone, Copy)]
 pub(crate) struct Notes {
     // How many frames the box has written, how many all offices together, and the highest session opened at the box.
     pub box_frames: u64,
@@ -33,7 +33,7 @@ pub(crate) struct Notes {
 }
 
 // Those on the bench, at the box and at the office in use.
-#[derive(Drop)]
+#[derive(Clone, Copy)]
 pub(crate) struct Receivers {
     pub bench: Receiver,
     pub cab: Receiver,
@@ -41,7 +41,7 @@ pub(crate) struct Receivers {
 }
 
 // The box and the office in use, the controller on the bench, and the receivers. The other offices are in offices.
-#[derive(Drop)]
+#[derive(Clone, Copy)]
 pub(crate) struct World {
     pub ends: Pair,
     pub bench: Controller,

@@ -1,4 +1,6 @@
 // How each end starts, and the tests of an office's stage.
+#![tactic(auto)]
+
 ghost use Rattle.std.specs.Prelude.{◌≡◌};
 ghost use Rattle.session.specs.Box as box;
 ghost use Rattle.session.specs.Office as spec;

@@ -1,5 +1,7 @@
 // Frames over a link that hands over bytes in pieces of any size: a frame wrapped in an outer field, and bytes given to a receiver, which
 // takes such fields apart.
+#![tactic(auto)]
+
 mod receiver;
 mod wrapper;
 

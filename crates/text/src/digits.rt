@@ -4,7 +4,7 @@ ghost use Rattle.text.specs.Text as spec;
 
 const LARGEST: u64 = 18446744073709551615;
 
-#[derive(Drop)]
+#[derive(Clone, Copy)]
 pub enum DecimalRead {
     Of(u64),
     NotDigits,

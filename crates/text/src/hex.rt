@@ -2,7 +2,7 @@
 ghost use Rattle.std.specs.Prelude.{◌≡◌};
 ghost use Rattle.text.specs.Text as spec;
 
-#[derive(Drop)]
+#[derive(Clone, Copy)]
 pub enum HexByte {
     Of(u8),
     NotHex,

@@ -1,4 +1,6 @@
 // Lines of text: parts, words and numbers.
+#![tactic(auto)]
+
 mod digits;
 mod hex;
 mod place;

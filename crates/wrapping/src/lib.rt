@@ -1,5 +1,7 @@
 // Frames over a link that hands over bytes in pieces of any size, document 02's first request: what their receiver holds. Its rules, how a
 // frame is wrapped, and the theorems about both are in specs/; the calls that keep the rules are in stream.
+#![tactic(auto)]
+
 ghost use Rattle.std.specs.Prelude.{◌≡◌};
 ghost use Rattle.wrapping.specs.Receiver as spec;
 
@@ -9,7 +11,7 @@ use base::FrameFault;
 pub const CONTENTS_MOST: usize = 64;
 
 // Where the next byte stands.
-#[derive(Drop)]
+#[derive(Clone, Copy)]
 pub enum Place {
     Tag,
     LengthLow,
@@ -22,7 +24,7 @@ pub enum Place {
 }
 
 // A frame begins at the front of the buffer. The count is of the bytes dropped where a tag should stand.
-#[derive(Drop)]
+#[derive(Clone, Copy)]
 pub struct Receiver {
     pub place: Place,
     pub buffer: [u8; CONTENTS_MOST],
@@ -30,7 +32,7 @@ pub struct Receiver {
 }
 
 // What came with the last byte taken: a frame is the first bytes of the receiver's buffer, as many as are told.
-#[derive(Drop)]
+#[derive(Clone, Copy)]
 pub enum Event {
     Nothing,
     Frame(usize),
@@ -39,7 +41,7 @@ pub enum Event {
 }
 
 // The receiver afterwards, and how many bytes it took.
-#[derive(Drop)]
+#[derive(Clone, Copy)]
 pub struct Received {
     pub receiver: Receiver,
     pub took: usize,
