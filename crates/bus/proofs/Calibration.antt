@@ -149,9 +149,11 @@ unfolding perform_found perform_offered
 levels_refused σ k d of asked when = by_cases (lookup (k / 2)) refl (levels_offered k of)
   where
     holds : (x : Bool) → T x → x ≡ true
+    holds false t = elim t [ ]
     holds true t = refl
 
     by_cases : (l : Lookup) → lookup (k / 2) ≡ l → T (offered l) → perform_looked_up l σ k d ≡ failed σ NotAvailable 0x04
+    by_cases Unknown found t = elim t [ ]
     by_cases (Found row) found t = rw asked (simp (holds (offers row Write) t, locks σ k of row found when))
 
 -- ---- what is not refused for the mode

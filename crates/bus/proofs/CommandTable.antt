@@ -173,6 +173,8 @@ rows_described =
 -- the row found in both is the same one
 found_alike : (id : ℕ) (papers : List Row) (rows : List CommandRow) → Rows papers rows → Alike id (find id papers) (find_row id rows)
 unfolding find
+found_alike id [] (row ∷ rows) told = elim told [ ]
+found_alike id (paper ∷ papers) [] told = elim told [ ]
 found_alike id [] [] told = unknown
 found_alike id (paper ∷ papers) (row ∷ rows) told = at_id (eqb id paper.id) refl (found_alike id papers rows told.1)
   where

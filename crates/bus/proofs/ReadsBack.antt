@@ -9,7 +9,7 @@ use lib.Seq.{sets, length-sets, append_snoc, take_at}
 use lib.Dec.{eqb, leb}
 use borrow.Author.Tests.{eqb-true, leb-true, leb-false, eq-eqb, ne_eqb}
 use Rattle.base.proofs.Lists.{sets_front}
-use Rattle.packet.specs.Packet.{data_most, command_byte, total, checksum, escape_byte, escape, fields, packet_of, packet, has_escape}
+use Rattle.packet.specs.Packet.{data_most, command_byte, total, checksum, escape_byte, escape, fields, packet_of, has_escape}
 use Rattle.packet.proofs.PacketLaws.{checksum_snoc}
 use Rattle.bus.specs.declared.Phase.{Phase}
 use Rattle.bus.specs.declared.Phase.TheVariants.{Idle, Command, Length, Data, Checksum}
