@@ -70,10 +70,10 @@ def main():
             for m in DECL.finditer(bare):
                 n = m[3]
                 if inside(p) and re.match(r'\s*(tie|goal)\.|\s*\{M : Type 1\}', bare[m.end():]): continue
-                if '-' in n and re.fullmatch(r"[A-Za-z][\w'-]*", n): own.add(n); fields |= {n} if m[1] else set()
+                if ('-' in n or n[0].islower() and re.search('[A-Z]', n)) and re.fullmatch(r"[A-Za-z][\w'?-]*", n): own.add(n); fields |= {n} if m[1] else set()
     table, left = {}, []
     for n in sorted(own):
-        new = re.sub(r'(?<=[a-z])[A-Z](?=[a-z])', lambda m: '_' + m[0].lower(), n).replace('-', '_') if n[0].islower() else n.replace('-', '_')
+        new = re.sub(r'(?<=[a-z])[A-Z](?=[a-z])', lambda m: '_' + m[0].lower(), n.replace('getD', 'get_or')).replace('-', '_') if n[0].islower() else n.replace('-', '_')
         users = [p for p in words if n in words[p]]
         if n in lib: left.append((n, 'a library has it: ' + sorted(lib[n])[0])); continue
         clash = [p for p in users if new in seen[p]]

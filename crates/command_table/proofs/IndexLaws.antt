@@ -31,11 +31,11 @@ index_as_written k h = eqb→eq _ _ (below_each 256 right_at right_everywhere k 
 abbrev ids : List CommandRow → List ℕ
 ids rows = map (λ (row : CommandRow). row.id) rows
 
-entry_getD : {A : Type 0} (other : A) (start n : ℕ) (xs : List A) → entry other start (start + n) xs ≡ get_or xs n other
+entry_get_or : {A : Type 0} (other : A) (start n : ℕ) (xs : List A) → entry other start (start + n) xs ≡ get_or xs n other
 unfolding entry
-entry_getD other start n [] = refl
-entry_getD other start zero (x ∷ xs) = rw (eq-eqb (start + 0) start (add-zero start))
-entry_getD other start (suc n) (x ∷ xs) = rw (ne_eqb (start + suc n) start (λ e. omega arith), add-suc start n, ← (suc-add start n)) (entry_getD other (suc start) n xs)
+entry_get_or other start n [] = refl
+entry_get_or other start zero (x ∷ xs) = rw (eq-eqb (start + 0) start (add-zero start))
+entry_get_or other start (suc n) (x ∷ xs) = rw (ne_eqb (start + suc n) start (λ e. omega arith), add-suc start n, ← (suc-add start n)) (entry_get_or other (suc start) n xs)
 
 by_number : (id : ℕ) (rows : List CommandRow) → get_or (numbered rows) (number_among id (ids rows)) Unknown ≡ find_row id rows
 unfolding number_among
@@ -51,7 +51,7 @@ by_number id (row ∷ rows) = by_cases (eqb id row.id) (number_among id (ids row
 -- both tables have their rows in one order
 pub lookup_by_number : (id : ℕ) → row_at (paper_number id) ≡ lookup id
 unfolding lookup table
-lookup_by_number id = rw (← (zero-add (paper_number id))) (entry_getD Unknown 0 (paper_number id) (numbered command_rows) ∙ by_number id command_rows)
+lookup_by_number id = rw (← (zero-add (paper_number id))) (entry_get_or Unknown 0 (paper_number id) (numbered command_rows) ∙ by_number id command_rows)
 
 pub row_as_written : RowAsWritten
 row_as_written k h = rw (index_as_written k h, lookup_by_number (k / 2)) (table_alike (k / 2))

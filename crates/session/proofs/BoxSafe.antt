@@ -26,7 +26,7 @@ use Rattle.outcome.specs.Turn.{Turn, wrote, silent, refused, refused_by}
 use Rattle.outcome.specs.Batch.{Outcome, alone}
 use Rattle.session.specs.Calls.{answer_of, frames_of, reply_of, updated, Log, with_frames, logged_at_box, FitsSession}
 use Rattle.session.specs.History.{taken_along, Rising, BoxHistory, NamedBy, History, settings_after, restarted, with_session, with_taken, is_open, rule_open, rule_order, rule_box_frame}
-use Rattle.session.proofs.Tools.{updated_same, updated_other, updated_each, updated_by_own, getElem?-below, length_one_more}
+use Rattle.session.proofs.Tools.{updated_same, updated_other, updated_each, updated_by_own, get_elem?_below, length_one_more}
 use Rattle.session.proofs.Tools.{Prefix, prefix_length, prefix_next, EachDecodes, decodes_weaker, decodes_one_more, decoded_at}
 use Rattle.session.proofs.Invariant.{settings_next, Request, request_opening, request_order, Reply, reply_welcome, reply_ack, reply_refuse, RowSafe, BoxSafe, OfficeSafe, Safe, request_reader}
 use Rattle.session.proofs.Row.{rising_one_more, below_last, along_one_more, along_same}
@@ -304,7 +304,7 @@ module _ (h : History) (l : Log) (safe : Safe h l) where
         BoxTurnSafe h l (wrote (with_taken h.box s c) (ack s n))
     taken_safe n counted fits valid =
         box_wrote (with_taken h.box s c) (taken_follows valid) none (ack s n)
-        (valid_ack fits (omega (arith, getElem?-below ((h.offices i).issued s) (length (h.box.taken s)) c next, ((safe.offices i).sessions s).counted)))
+        (valid_ack fits (omega (arith, get_elem?_below ((h.offices i).issued s) (length (h.box.taken s)) c next, ((safe.offices i).sessions s).counted)))
         (reply_ack (rw (updated_same h.box.taken s taken_now) (omega (arith, length_one_more (h.box.taken s) c))))
 
   module _ (i s n : ℕ) (c : Change) (named : NamedBy h.offices i s) (fits : FitsSession s) (valid : ValidChange c) (issued : get_elem? ((h.offices i).issued s) (n - 1) ≡ some c) where

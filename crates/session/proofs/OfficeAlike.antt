@@ -34,7 +34,7 @@ use Rattle.session.specs.History.{orders, with_opening, with_welcome, with_issue
 use Rattle.session.specs.History.{rule_opening, rule_issue, sent_again, rule_resend, rule_reopen, rule_welcome, rule_ack, rule_refuse, rule_office_frame, first_refusal, batch_unless, issued_singly, rule_issue_all, progress_at, progress, rules_at_office}
 use Rattle.session.specs.Office as office
 use Rattle.session.specs.Office.{order_of, no_order, empty_window, office_of, never, with_order, issue_unless, kept_change, received, judged}
-use Rattle.session.proofs.Tools.{updated_same, length_one_more, getElem?-below, getElem?-append, getElem?-last}
+use Rattle.session.proofs.Tools.{updated_same, length_one_more, get_elem?_below, get_elem?_append, get_elem?_last}
 use Rattle.session.specs.Limits.{window_limit, order_limit}
 use Rattle.outcome.specs.Turn.{Turn, wrote, refused, bytes_written}
 
@@ -56,13 +56,13 @@ holds_more l c window confirmed sized holds room n above within = by_cases (eqb 
         let next : n ≡ length l + 1 = eqb-true n (length l + 1) e in
         let last : n - 1 ≡ length l = omega arith in
         let stored : get_or (set window (length l % window_limit) new) (length l % window_limit) no_order ≡ new = get_or-set_same window (length l % window_limit) new no_order (omega arith) in
-        rw last (getElem?-last l c ∙ ap {B = Option Change} some (sym (asked_change_of c) ∙ ap (λ (o : Order). asked o.change) (sym stored)))
+        rw last (get_elem?_last l c ∙ ap {B = Option Change} some (sym (asked_change_of c) ∙ ap (λ (o : Order). asked o.change) (sym stored)))
     by_cases false e =
         let other : n ≡ length l + 1 → ⊥ = eqb-false n (length l + 1) e in
         let before : n ≤ length l = omega (arith, other, length_one_more l c) in
         let kept : get_or (set window (length l % window_limit) new) ((n - 1) % window_limit) no_order ≡ get_or window ((n - 1) % window_limit) no_order =
         get_or-set_other window (length l % window_limit) ((n - 1) % window_limit) new no_order (λ same. omega arith) in
-        getElem?-append l (c ∷ []) (n - 1) (omega arith) ∙ holds n above before ∙ ap {B = Option Change} some (ap (λ (o : Order). asked o.change) (sym kept))
+        get_elem?_append l (c ∷ []) (n - 1) (omega arith) ∙ holds n above before ∙ ap {B = Option Change} some (ap (λ (o : Order). asked o.change) (sym kept))
 
 -- a window of the right length that holds the unanswered orders
 pub record Backed (window : List Order) (l : List Change) (confirmed : ℕ) : Type 0 where
@@ -199,7 +199,7 @@ sent_again_alike h window none n room a holds above e =
     (λ within. absurd (none-ne-some _ (sym e ∙ holds n above (leb-true n (length (orders h)) within))))
     (λ _. answered_alike a)
 sent_again_alike h window (some c) n room a holds above e =
-    let inside : n - 1 < length (orders h) = getElem?-below (orders h) (n - 1) c e in
+    let inside : n - 1 < length (orders h) = get_elem?_below (orders h) (n - 1) c e in
     let held : some (kept_change window n) ≡ some c = sym (holds n above (omega arith)) ∙ e in
     cond_cases (λ t. TurnAlike t (cond (ltb room frame_limit) (refused h 1) (wrote h (order h.session n c)))) (leb n (length (orders h))) _ _
     (λ _. cond_both TurnAlike (ltb room frame_limit) (λ _. answered_alike a)

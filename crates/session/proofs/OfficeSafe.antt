@@ -24,7 +24,7 @@ use Rattle.session.specs.Calls.{answer_of, refusals, updated, Log, named_unless,
 use Rattle.session.specs.History.{is_awaiting, is_live, BoxHistory, NamedBy, OfficeHistory, History, settings_after, orders, with_opening, with_welcome, with_issued, with_confirmed, with_end, unanswered, sent_again}
 use Rattle.session.specs.History.{rule_opening, rule_issue, rule_resend, rule_reopen, rule_welcome, rule_ack, rule_refuse, rule_office_frame}
 use Rattle.session.proofs.Alike.{cond_both}
-use Rattle.session.proofs.Tools.{impossible, updated_same, updated_other, updated_each, updated_by_own, getElem?-below, getElem?-append, getElem?-last, getElem?-each, length_one_more}
+use Rattle.session.proofs.Tools.{impossible, updated_same, updated_other, updated_each, updated_by_own, get_elem?_below, get_elem?_append, get_elem?_last, get_elem?_each, length_one_more}
 use Rattle.session.proofs.Tools.{prefix_append, EachDecodes, decodes_weaker, decodes_one_more, decoded_at}
 use Rattle.session.proofs.Invariant.{settings_next, Request, request_opening, request_order, Reply, SessionSafe, OfficeSafe, Safe, none_confirmed, opened_by, reply_reader}
 
@@ -225,7 +225,7 @@ module _ (box : BoxHistory) (others : ℕ → OfficeHistory) (i : ℕ) where
       still_there : (s n : ℕ) (d : Change) → get_elem? (o.issued s) n ≡ some d → get_elem? (issued_now s) n ≡ some d
       still_there s n d =
           updated_each o.issued o.session orders_now (λ t now. get_elem? (o.issued t) n ≡ some d → get_elem? now n ≡ some d)
-          (λ e. getElem?-append (orders o) (c ∷ []) n (getElem?-below (orders o) n d e) ∙ e) (λ _ _ e. e) s
+          (λ e. get_elem?_append (orders o) (c ∷ []) n (get_elem?_below (orders o) n d e) ∙ e) (λ _ _ e. e) s
 
       session_issued : (s : ℕ) → SessionSafe s o.named (issued_now s) (box.taken s)
       session_issued =
@@ -234,7 +234,7 @@ module _ (box : BoxHistory) (others : ℕ → OfficeHistory) (i : ℕ) where
           (record {
             unnamed = λ unnamed. absurd (unnamed own_session);
             counted = omega (arith, length_one_more (orders o) c);
-            valid = getElem?-each ValidChange (orders o) c valid before.valid;
+            valid = get_elem?_each ValidChange (orders o) c valid before.valid;
             prefix = λ m. prefix_append _ (orders o) (c ∷ []) (before.prefix m);
           })
           (λ s _. old.sessions s)
@@ -270,7 +270,7 @@ module _ (box : BoxHistory) (others : ℕ → OfficeHistory) (i : ℕ) where
           nth : get_elem? ((updated others i (with_issued o c) i).issued o.session) (length (orders o) + 1 - 1) ≡ some c
           nth =
               let last : length (orders o) + 1 - 1 ≡ length (orders o) = omega arith in
-              rw (updated_same others i (with_issued o c), now_orders, last) (getElem?-last (orders o) c)
+              rw (updated_same others i (with_issued o c), now_orders, last) (get_elem?_last (orders o) c)
 
     pub issue_safe : (c : Change) (room : ℕ) → FitsChange c → OfficeTurnSafe l (rule_issue o c room)
     unfolding rule_issue
@@ -302,7 +302,7 @@ module _ (box : BoxHistory) (others : ℕ → OfficeHistory) (i : ℕ) where
         let issued = old.sessions o.session in
         cond_cases (OfficeTurnSafe l) (ltb room frame_limit) _ _ (λ _. safe)
         (λ _. sent_safe (order o.session n c)
-        (valid_order old.fits positive (omega (arith, getElem?-below (orders o) (n - 1) c nth, issued.counted)) (issued.valid (n - 1) c nth))
+        (valid_order old.fits positive (omega (arith, get_elem?_below (orders o) (n - 1) c nth, issued.counted)) (issued.valid (n - 1) c nth))
         (own_order n c own nth))
 
     pub resend_safe : (n room : ℕ) → OfficeTurnSafe l (rule_resend o n room)

@@ -45,27 +45,27 @@ module _ {A : Type 0} (f : ℕ → A) (s : ℕ) (a : A) where
 -- ---- elements of lists
 
 module _ {A : Type 0} where
-  pub getElem?-below : (l : List A) (i : ℕ) (a : A) → get_elem? l i ≡ some a → i < length l
-  getElem?-below [] i a e = absurd (none-ne-some a e)
-  getElem?-below (x ∷ l) zero a e = omega arith
-  getElem?-below (x ∷ l) (suc i) a e = omega (arith, getElem?-below l i a e)
+  pub get_elem?_below : (l : List A) (i : ℕ) (a : A) → get_elem? l i ≡ some a → i < length l
+  get_elem?_below [] i a e = absurd (none-ne-some a e)
+  get_elem?_below (x ∷ l) zero a e = omega arith
+  get_elem?_below (x ∷ l) (suc i) a e = omega (arith, get_elem?_below l i a e)
 
-  pub getElem?-append : (l m : List A) (i : ℕ) → i < length l → get_elem? (l ++ m) i ≡ get_elem? l i
-  getElem?-append [] m i h = absurd (not-suc-le-zero h)
-  getElem?-append (x ∷ l) m zero h = refl
-  getElem?-append (x ∷ l) m (suc i) h = getElem?-append l m i (le_of_suc-le-suc h)
+  pub get_elem?_append : (l m : List A) (i : ℕ) → i < length l → get_elem? (l ++ m) i ≡ get_elem? l i
+  get_elem?_append [] m i h = absurd (not-suc-le-zero h)
+  get_elem?_append (x ∷ l) m zero h = refl
+  get_elem?_append (x ∷ l) m (suc i) h = get_elem?_append l m i (le_of_suc-le-suc h)
 
-  pub getElem?-last : (l : List A) (a : A) → get_elem? (l ++ (a ∷ [])) (length l) ≡ some a
-  getElem?-last [] a = refl
-  getElem?-last (x ∷ l) a = getElem?-last l a
+  pub get_elem?_last : (l : List A) (a : A) → get_elem? (l ++ (a ∷ [])) (length l) ≡ some a
+  get_elem?_last [] a = refl
+  get_elem?_last (x ∷ l) a = get_elem?_last l a
 
   -- a property of every element, and of one more
-  pub getElem?-each : (P : A → Type 0) (l : List A) (a : A) → P a → ((i : ℕ) (b : A) → get_elem? l i ≡ some b → P b) → (i : ℕ) (b : A) →
+  pub get_elem?_each : (P : A → Type 0) (l : List A) (a : A) → P a → ((i : ℕ) (b : A) → get_elem? l i ≡ some b → P b) → (i : ℕ) (b : A) →
       get_elem? (l ++ (a ∷ [])) i ≡ some b → P b
-  getElem?-each P [] a last before zero b e = subst P (some-injective a b e) last
-  getElem?-each P [] a last before (suc i) b e = absurd (none-ne-some b e)
-  getElem?-each P (x ∷ l) a last before zero b e = before zero b e
-  getElem?-each P (x ∷ l) a last before (suc i) b e = getElem?-each P l a last (λ j. before (suc j)) i b e
+  get_elem?_each P [] a last before zero b e = subst P (some-injective a b e) last
+  get_elem?_each P [] a last before (suc i) b e = absurd (none-ne-some b e)
+  get_elem?_each P (x ∷ l) a last before zero b e = before zero b e
+  get_elem?_each P (x ∷ l) a last before (suc i) b e = get_elem?_each P l a last (λ j. before (suc j)) i b e
 
   pub take_next : (n : ℕ) (l : List A) (a : A) → get_elem? l n ≡ some a → take (suc n) l ≡ take n l ++ (a ∷ [])
   take_next n [] a e = absurd (none-ne-some a e)
