@@ -1,5 +1,5 @@
 -- Lengths that sum to the bytes cut them exactly, and the data of a batch are cut so.
-use Prim.Native.Nat.{ℕ, ◌+◌, ◌-◌, ◌≤◌}
+use Prim.Native.Nat.{ℕ, ◌+◌, ◌≤◌}
 use native.Mathlib.Omega.{arith}
 use mathlib.Core.Path.{◌≡◌, refl, ap, ◌∙◌}
 use mathlib.Core.List.{List, [], ◌∷◌, ◌++◌, foldr, zip_with}
@@ -7,7 +7,6 @@ use lib.ListN.{length, take, drop, length-drop, take-append-drop}
 use lib.Seq.{take_all, length-take-le}
 use Rattle.frame.specs.Frame.{Change}
 use Rattle.frame.specs.View.{asked_as}
-use Rattle.outcome.specs.Batch.{cut}
 use Rattle.outcome.specs.Theorems.{CutsExactly, ChangesCut}
 
 pub cuts_exactly : CutsExactly
