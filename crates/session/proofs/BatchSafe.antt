@@ -1,5 +1,5 @@
 -- Safety of a batch and of a run: the invariant holds after each order and each frame, and so after all.
-use Prim.Native.Nat.{ℕ, ◌+◌, ◌-◌, ◌*◌, max}
+use Prim.Native.Nat.{ℕ, ◌-◌, ◌*◌, max}
 use native.Mathlib.Omega.{arith}
 use mathlib.Core.Path.{◌≡◌, refl, sym, subst}
 use mathlib.Core.List.{List, [], ◌∷◌, ◌++◌, map, Memᴰ}

@@ -152,9 +152,9 @@ EachValid fs = (bytes : List ℕ) → Memᴰ bytes fs → (f : Frame) → decode
 
 frames_alike : {c : Cab} {b : BoxHistory} → CabAlike c b → (fs : List (List ℕ)) → EachValid fs → AllAlike CabAlike (frames_judged c fs) (frames_singly b fs)
 frames_alike a [] valid = none_alike
-frames_alike a (f ∷ fs) valid =
+frames_alike {c} {b} a (f ∷ fs) valid =
     let first = frame_alike a f (valid f (Memᴰ.head refl)) in
-    one_alike first (frames_alike first.states fs (λ g m. valid g (Memᴰ.tail m)))
+    one_alike first (frames_alike {c = (judged c (decode Box f)).state} first.states fs (λ g m. valid g (Memᴰ.tail m)))
 
 run_alike : {c : Cab} {b : BoxHistory} → CabAlike c b → (lengths bytes : List ℕ) (room : ℕ) → ((frames_in c lengths bytes room).refusal ≡ none → EachValid (cut lengths bytes)) →
     OutcomesAlike CabAlike (frames_in c lengths bytes room) (rule_box_frames b lengths bytes room)

@@ -17,7 +17,7 @@ use Rattle.settings.specs.Range.{Held}
 use Rattle.settings.proofs.RangeLaws.{fresh_held}
 use Rattle.base.specs.Refusal.{Told, plain}
 use Rattle.frame.specs.Frame.{Change, ValidChange, Frame, welcome, ack, refuse}
-use Rattle.link.specs.Encoding.{Valid, valid_opening, valid_welcome, valid_order, valid_ack, valid_refuse}
+use Rattle.link.specs.Encoding.{Valid, valid_opening, valid_welcome, valid_order, valid_ack, valid_refuse, valid_refuse_fault}
 use Rattle.judging.specs.declared.End.TheVariants.{Box}
 use Rattle.judging.specs.Decoding.{a_frame, decode}
 use Rattle.link.specs.View.{frame_limit}
@@ -325,6 +325,10 @@ module _ (h : History) (l : Log) (safe : Safe h l) where
 
   read_safe : (f : Frame) → Valid f → Request h.offices f → BoxTurnSafe h l (rule_box_frame h.box (a_frame f))
   unfolding rule_box_frame
+  read_safe _ (valid_welcome {s = s} {σ = σ} _ _) request = elim request [ ]
+  read_safe _ (valid_ack {s = s} {k = k} _ _) request = elim request [ ]
+  read_safe _ (valid_refuse {s = s} {r = r} _ _ _) request = elim request [ ]
+  read_safe _ (valid_refuse_fault {s = s} {r = r} _ _ _) request = elim request [ ]
   read_safe _ (valid_opening fits) (request_opening {i = i} {s = s} named) = open_safe i s named fits
   read_safe _ (valid_order fits _ _ valid) (request_order {i = i} {s = s} {n = n} {c = c} named issued) =
       order_safe i s n c named fits valid issued h.box.session refl

@@ -156,7 +156,7 @@ orders_alike {x} {h} a (c ∷ cs) room =
     let t = office.issue x c room in
     let u = rule_issue h c room in
     one_alike first (subst (λ (frame : Option Frame). AllAlike OfficeAlike (orders_singly t.state cs (room - length (bytes_written t))) (issued_singly u.state cs (room - length (encoding_of frame))))
-    first.same_frame (orders_alike first.states cs (room - length (bytes_written t))))
+    first.same_frame (orders_alike {x = t.state} {h = u.state} first.states cs (room - length (bytes_written t))))
 
 batch_alike : {x : Office} {h : OfficeHistory} → OfficeAlike x h → (orders : List BatchOrder) (bytes : List ℕ) (room : ℕ) →
     OutcomesAlike OfficeAlike (office.issue_all x orders bytes room) (rule_issue_all h orders bytes room)

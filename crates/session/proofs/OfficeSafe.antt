@@ -388,6 +388,8 @@ module _ (box : BoxHistory) (others : ℕ → OfficeHistory) (i : ℕ) where
 
     read_safe : (f : Frame) → Reply box f → OfficeTurnSafe l (rule_office_frame o (a_frame f))
     unfolding rule_office_frame
+    read_safe (opening _) reply = elim reply [ ]
+    read_safe (order _ _ _) reply = elim reply [ ]
     read_safe (welcome s σ) reply = welcome_safe s σ reply
     read_safe (ack s k) reply = ack_safe s k reply
     read_safe (refuse s r) _ = refuse_safe s r

@@ -161,12 +161,12 @@ module _ (i : ℕ) (e : Ends) where
   now : (c : OfficeCall) → (ends_rules e (at_office i c)).state.offices i ≡ (office_rules o c).state
   now c = updated_same e.offices i (office_rules o c).state
 
-  told_over : (c : OfficeCall) → TellsOver i o (at_office i c) → (o.stage ≡ Unopened → ⊥) → office.progress (office_rules o c).state ≡ Over
+  told_over : {j : ℕ} (c : OfficeCall) → TellsOver i o (at_office j c) → (o.stage ≡ Unopened → ⊥) → office.progress (office_rules o c).state ≡ Over
   unfolding office.received
   told_over c (refuse_reaches {r = r} decoded number) opened =
       rw decoded (over_then (office.ended o o.session.0 r) _ refl (ended_over o r number o.stage refl opened))
 
-  opened_anew : (c : OfficeCall) → OpensAnew i (answer_of (office_rules o c)) (at_office i c) → office.progress (office_rules o c).state ≡ Waiting
+  opened_anew : {j : ℕ} (c : OfficeCall) → OpensAnew i (answer_of (office_rules o c)) (at_office j c) → office.progress (office_rules o c).state ≡ Waiting
   unfolding office.open_session
   opened_anew c (opening_accepted {s = s} {room = room} accepted) = by_test s room accepted
     where

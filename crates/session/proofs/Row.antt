@@ -19,6 +19,7 @@ rising_one_more (r ∷ row) s (lowest, rest) below =
 
 -- those before the last one are below it
 pub below_last : (row : List ℕ) (s : ℕ) → Rising (row ++ (s ∷ [])) → (t : ℕ) → Memᴰ t row → t < s
+below_last [] s _ t member = elim member [ ]
 below_last (r ∷ row) s (lowest, rest) t (Memᴰ.head e) = subst (λ (x : ℕ). x < s) (sym e) (lowest s (Memᴰ.append_right row (Memᴰ.head refl)))
 below_last (r ∷ row) s (lowest, rest) t (Memᴰ.tail m) = below_last row s rest t m
 

@@ -4,13 +4,13 @@ use native.Mathlib.Omega.{arith}
 use native.Mathlib.Numerals.{add-one}
 use native.Mathlib.Nat.{not-suc-le-zero, le_of_suc-le-suc}
 use mathlib.Core.Path.{◌≡◌, refl, sym, ap, ◌∙◌, subst, fun_ext}
-use mathlib.Core.Bool.{Bool, true, false, not, false≢true}
+use mathlib.Core.Bool.{Bool, true, false, false≢true}
 use mathlib.Core.List.{List, [], ◌∷◌, ◌++◌, Memᴰ}
 use mathlib.Core.Option.{some, some-injective, none-ne-some}
 use lib.ListN.{length, take, get_elem?, length-append, length-take}
 use lib.Seq.{take_all, take-append-le}
 use lib.Dec.{eqb}
-use borrow.Author.Tests.{eqb-true, eqb-false, eq-eqb, ne_eqb, not-true, not-false}
+use borrow.Author.Tests.{eqb-true, eqb-false, eq-eqb, ne_eqb}
 use Rattle.base.proofs.Tests.{cond_cases}
 use Rattle.frame.specs.Frame.{Frame}
 use Rattle.link.specs.Encoding.{Valid, encode}
@@ -124,8 +124,8 @@ module _ (P : Frame → Type 0) (frames : List (List ℕ)) (each : EachDecodes P
 
 -- ---- a call's answer b, tested as `!b`
 
-pub passed : {b test : Bool} → b ≡ test → not b ≡ false → test ≡ true
-passed {b} e tested = sym e ∙ not-false b tested
+pub passed : {b test : Bool} → b ≡ test → b ≡ true → test ≡ true
+passed e tested = sym e ∙ tested
 
-pub failed : {b test : Bool} → b ≡ test → not b ≡ true → test ≡ false
-failed {b} e tested = sym e ∙ not-true b tested
+pub failed : {b test : Bool} → b ≡ test → b ≡ false → test ≡ false
+failed e tested = sym e ∙ tested
