@@ -1,0 +1,15 @@
+use native.Mathlib.Nat.{add-sub_cancel_left}
+use mathlib.Core.Path.{refl}
+use Rattle.frame_run.proofs.step.Goals as goal
+
+pub returns : goal.returns
+returns c =
+    let called = c.answer-answered in
+    record {
+      answer = called.result;
+      follows = rw add-sub_cancel_left at called.ensures;
+      state_is = refl;
+      parts_are = c.with.ensures;
+      at_is = refl;
+      written_is = refl;
+    }
