@@ -3,7 +3,7 @@
 use std::{env, fs};
 
 /// Seen from the folder of the package, where cargo runs this.
-const LIBRARY: &str = "../target/staticlib/liblookup_bench.a";
+const LIBRARY: &str = "../crates/lookup_bench/out/liblookup_bench.a";
 
 fn main() {
     println!("cargo::rerun-if-changed=build.rs");

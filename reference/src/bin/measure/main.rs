@@ -2,6 +2,8 @@
 //! compared with `plain`, the controller written for speed in document 01's forms; starts and a session,
 //! order by order and by pages, with the reference; then its lookup of a command byte, which
 //! `measure lookup [CALLS]` measures alone.
+//!
+//! A program is PROGRAMS_DIR/NAME or, where that is a folder, PROGRAMS_DIR/NAME/out/NAME.
 
 #![forbid(unsafe_code)]
 
@@ -44,6 +46,7 @@ fn main() -> ExitCode {
     let arguments: Vec<_> = env::args_os().skip(1).collect();
     let Some(task) = task(&arguments) else {
         eprintln!("usage: measure PROGRAMS_DIR | measure lookup [CALLS]");
+        eprintln!("a program is PROGRAMS_DIR/NAME or PROGRAMS_DIR/NAME/out/NAME");
         return ExitCode::from(2);
     };
     let ours = match env::current_exe() {
@@ -107,8 +110,12 @@ fn lookup_alone(ours: &Path, calls: NonZeroU64) -> Result<(), Failure> {
     lookup::lookup(ours, calls)
 }
 
+/// Beside the others, or at `out` in a folder of its own name.
 fn program(folder: &Path, name: &str) -> Result<PathBuf, Failure> {
-    let path = folder.join(name);
+    let mut path = folder.join(name);
+    if path.is_dir() {
+        path.extend(["out", name]);
+    }
     match fs::metadata(&path) {
         Ok(_) => Ok(path),
         Err(error) => Err(Failure::Run { path, error }),
