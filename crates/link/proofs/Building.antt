@@ -31,9 +31,6 @@ pushed_encoded xs ys short =
 pub bytes_of_encoded : (l : List ℕ) → bytes_of (encoded l) ≡ l
 bytes_of_encoded l = take-append_seam l (drop (length l) (replicate frame_limit 0))
 
--- encode's other two clauses, from the first
-pub encoded_bytes : (l : List ℕ) (r : Encoded) → r ≡ encoded l → bytes_of r ≡ l
-encoded_bytes l r whole = rw whole (bytes_of_encoded l)
-
-pub encoded_short : (l : List ℕ) (r : Encoded) → length l ≤ frame_limit → r ≡ encoded l → r.len ≤ frame_limit
-encoded_short l r short whole = rw whole short
+-- encode's three clauses from the first
+pub whole_encoded : (l : List ℕ) (r : Encoded) → length l ≤ frame_limit → r ≡ encoded l → (r ≡ encoded l) × ((bytes_of r ≡ l) × (r.len ≤ frame_limit))
+whole_encoded l r short whole = (whole, (rw whole (bytes_of_encoded l), rw whole short))
