@@ -7,7 +7,7 @@ use mathlib.Core.List.{List, [], ◌∷◌, ◌++◌, map, flat_map, Memᴰ}
 use Rattle.base.specs.Refusal.{Fault}
 use Rattle.wrapping.specs.Wrapping.{wrapped}
 use Rattle.wrapping.specs.Receiver.{fresh}
-use Rattle.wrapping.specs.Reading.{Handed, frame, refused, Reading, earlier, read, given}
+use Rattle.wrapping.specs.Reading.{Handed, frame, refused, Reading, earlier, read}
 use Rattle.wrapping.specs.Theorems.{AtTag, Wrappable}
 use Rattle.wrapping.proofs.ReadingLaws.{read_append, given_reads, dropped_grows}
 use Rattle.wrapping.proofs.StreamTheorems.{through_unchanged}
@@ -21,6 +21,7 @@ frames_all [] = refl
 frames_all (f ∷ row) = ap (λ (fs : List (List ℕ)). f ∷ fs) (frames_all row)
 
 pub frames_among : (f : List ℕ) (handed : List Handed) → Memᴰ f (frames handed) → Memᴰ (frame f) handed
+frames_among f [] m = elim m [ ]
 frames_among f (frame g ∷ handed) (Memᴰ.head e) = Memᴰ.head (ap {B = Handed} frame e)
 frames_among f (frame g ∷ handed) (Memᴰ.tail m) = Memᴰ.tail (frames_among f handed m)
 frames_among f (refused n ∷ handed) m = Memᴰ.tail (frames_among f handed m)
