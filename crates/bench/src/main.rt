@@ -4,7 +4,11 @@
 
 use bus::Controller;
 use controller::exchange_all;
-use libc::{STDIN_FILENO, STDOUT_FILENO};
+use std::io;
+use std::io::{Read, Stdin, Stdout};
+
+// As many bytes as one read may give.
+const READ_LIMIT: usize = 4096;
 
 #[derive(Clone, Copy)]
 struct Turn {
@@ -13,39 +17,38 @@ struct Turn {
 }
 
 // Answers the bytes of one read at once, however few, since the host may wait for them.
-fn answer_read(controller: Controller) -> Turn {
-    let mut input = io::buffer();
-    let got = libc::read(STDIN_FILENO, &mut input);
-    if got <= 0 {
-        return Turn {
+fn answer_read(mut from: Stdin, to: Stdout, controller: Controller) -> io::Result<Turn> {
+    let mut input = [0u8; READ_LIMIT];
+    let n = from.read(&mut input)?;
+    if n == 0 {
+        return Ok(Turn {
             controller,
             goes_on: false,
-        };
+        });
     }
-    let n = io::count(got, &input);
-    let mut output = io::buffer();
+    let mut output = [0u8; READ_LIMIT];
     let after = exchange_all(controller, &input[..n], &mut output);
-    Turn {
+    to.write_all(&output[..n])?;
+    Ok(Turn {
         controller: after,
-        goes_on: io::write_all(STDOUT_FILENO, &output[0..n]),
-    }
+        goes_on: true,
+    })
 }
 
-// A proved loop has to end, and an input need not. So it counts its turns down, from a number that no run uses up.
-fn answer_all() {
+// A proved loop has to end, and an input need not. So it counts its turns, up to a number that no run uses up.
+fn answer_all(from: Stdin, to: Stdout) -> io::Result<()> {
     let mut controller = Controller::fresh();
-    let mut turns = u64::MAX;
-    while 0 < turns {
-        let turn = answer_read(controller);
+    for _ in 0..u64::MAX {
+        let turn = answer_read(from, to, controller)?;
         if !turn.goes_on {
-            return;
+            return Ok(());
         }
         let next = turn.controller;
         controller = next;
-        turns -= 1;
     }
+    Ok(())
 }
 
-fn main() {
-    answer_all();
+fn main(rt: HostRuntime) -> io::Result<()> {
+    answer_all(rt.stdin(), rt.stdout())
 }

@@ -5,7 +5,11 @@
 use bus::Controller;
 use controller::exchange_all;
 use frame::{Change, DATA_LIMIT};
-use libc::{STDERR_FILENO, STDIN_FILENO, STDOUT_FILENO};
+use std::io;
+use std::io::Read;
+
+// As many bytes as one read may give.
+const READ_LIMIT: usize = 4096;
 
 // As many bytes from the first on as an order's data can be.
 fn first(bytes: &[u8]) -> &[u8] {
@@ -16,30 +20,25 @@ fn first(bytes: &[u8]) -> &[u8] {
 }
 
 // On standard error, the backlight after the bytes as an order's command byte and data.
-fn tell(controller: Controller, bytes: &[u8]) {
+fn tell(rt: &impl Eprint, controller: Controller, bytes: &[u8]) -> io::Result<()> {
     let made = Change::command(number::byte(bytes, 0), first(number::rest(bytes, 1)));
     let settings = order::apply(controller.settings(), made.change);
-    io::print_decimal(STDERR_FILENO, settings.backlight as u64);
-    io::write_all(STDERR_FILENO, b"\n");
+    eprintln!(rt; "{}", settings.backlight)
 }
 
-fn main() {
+// The input is fresh at each read, so the bytes told of at its end are zeros.
+fn main(rt: HostRuntime) -> io::Result<()> {
     let mut controller = Controller::fresh();
-    let mut turns = u64::MAX;
-    while 0 < turns {
-        let mut input = io::buffer();
-        let got = libc::read(STDIN_FILENO, &mut input);
-        if got <= 0 {
-            tell(controller, &input);
-            return;
+    for _ in 0..u64::MAX {
+        let mut input = [0u8; READ_LIMIT];
+        let n = rt.stdin().read(&mut input)?;
+        if n == 0 {
+            return tell(&rt, controller, &input);
         }
-        let n = io::count(got, &input);
-        let mut output = io::buffer();
+        let mut output = [0u8; READ_LIMIT];
         let after = exchange_all(controller, &input[..n], &mut output);
         controller = after;
-        if !io::write_all(STDOUT_FILENO, &output[0..n]) {
-            return;
-        }
-        turns -= 1;
+        rt.stdout().write_all(&output[..n])?;
     }
+    Ok(())
 }

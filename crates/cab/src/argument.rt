@@ -1,7 +1,11 @@
 // What the program's argument tells.
+use std::env::{Env, FillError};
 use text::DecimalRead;
 
 const HIGHEST_MOST: u64 = u32::MAX as u64;
+
+// A longer argument is refused unread.
+const ARGUMENT_LIMIT: usize = 4096;
 
 #[derive(Clone, Copy)]
 pub(crate) enum Given {
@@ -9,18 +13,26 @@ pub(crate) enum Given {
     Wrong,
 }
 
-// The first of the arguments is the program's name.
-pub(crate) fn highest() -> Given {
-    let count = os::arg_count();
-    if count < 2 {
-        return Given::Highest(0);
-    }
-    if 2 < count {
+// The first of the arguments is the program's name. They are taken as bytes, since one need not be text.
+pub(crate) fn highest(rt: &impl Env) -> Given {
+    if is_there(rt, 2) {
         return Given::Wrong;
     }
-    let mut argument = io::buffer();
-    let n = os::arg(1, &mut argument);
-    session(&argument[..n])
+    let mut argument = [0u8; ARGUMENT_LIMIT];
+    match rt.arg(1, &mut argument) {
+        Ok(n) => session(&argument[..n]),
+        Err(FillError::NotPresent) => Given::Highest(0),
+        Err(FillError::TooLong) => Given::Wrong,
+    }
+}
+
+fn is_there(rt: &impl Env, i: usize) -> bool {
+    let mut start = [0u8; 1];
+    match rt.arg(i, &mut start) {
+        Ok(_) => true,
+        Err(FillError::NotPresent) => false,
+        Err(FillError::TooLong) => true,
+    }
 }
 
 fn session(s: &[u8]) -> Given {

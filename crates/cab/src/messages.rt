@@ -1,23 +1,18 @@
 // What is told on standard error.
-use libc::STDERR_FILENO;
+use std::io;
 
-pub(crate) fn usage() {
-    io::write_all(
-        STDERR_FILENO,
-        b"usage: cab [N], where N is the highest session ever opened at the box, 0 to 4294967295; none means 0\n",
-    );
+pub(crate) fn usage(rt: &impl Eprint) -> io::Result<()> {
+    eprintln!(rt;
+        "usage: cab [N], where N is the highest session ever opened at the box, 0 to 4294967295; none means 0"
+    )
 }
 
 // What of the input came to nothing, if anything did.
-pub(crate) fn lost(dropped: u32, refused: u64) {
+pub(crate) fn lost(rt: &impl Eprint, dropped: u32, refused: u64) -> io::Result<()> {
     if dropped == 0 {
         if refused == 0 {
-            return;
+            return Ok(());
         }
     }
-    io::write_all(STDERR_FILENO, b"bytes dropped where a frame should begin: ");
-    io::print_decimal(STDERR_FILENO, dropped as u64);
-    io::write_all(STDERR_FILENO, b", lengths refused: ");
-    io::print_decimal(STDERR_FILENO, refused);
-    io::write_all(STDERR_FILENO, b"\n");
+    eprintln!(rt; "bytes dropped where a frame should begin: {dropped}, lengths refused: {refused}")
 }

@@ -32,7 +32,7 @@ pub(crate) fn which(word: &[u8], row: &[u8]) -> usize {
     let mut at: usize = 0;
     while at < row.len() {
         let end = text::find(row, at, b' ');
-        if check::same(word, text::part(row, at, end)) {
+        if word == text::part(row, at, end) {
             return n;
         }
         n = std::num::wrapping_add_usize(n, 1);
@@ -95,7 +95,7 @@ pub(crate) fn lent_by(s: &[u8], otherwise: Fault) -> Ending {
     if s.len() == 0 {
         return Ending::Of(Lent::Room);
     }
-    if check::same(text::word(s), b"into") {
+    if text::word(s) == b"into".as_slice() {
         return into(text::after_word(s));
     }
     Ending::Wrong(otherwise)

@@ -1,7 +1,7 @@
 // Frames of the link to bytes and back.
 use crate::arguments::{NumberRead, which};
 use crate::asked::{Action, Asked, Fault, Lent, Made, Said};
-use crate::buffers::{Memory, Output, Page};
+use crate::buffers::{LINE_LIMIT, Memory, Output, Page};
 use crate::frames::GIVEN;
 use crate::{arguments, asked, print};
 use frame::{Change, ChangeMade, Frame, Kind, OrderNumber, SessionId, Verdict};
@@ -57,16 +57,16 @@ fn without_number(kind: &[u8], session: SessionId) -> Frame {
 }
 
 fn numbered(kind: &[u8], session: SessionId, n: u16, s: &[u8]) -> Frame {
-    if check::same(kind, b"order") {
+    if kind == b"order".as_slice() {
         return order(session, OrderNumber(n), s);
     }
     if 0 < s.len() {
         return Frame::malformed();
     }
-    if check::same(kind, b"ack") {
+    if kind == b"ack".as_slice() {
         return Frame::ack(session, OrderNumber(n));
     }
-    if check::same(kind, b"refuse") {
+    if kind == b"refuse".as_slice() {
         return refuse(session, n);
     }
     Frame::malformed()
@@ -82,17 +82,17 @@ fn refuse(session: SessionId, n: u16) -> Frame {
 fn order(session: SessionId, number: OrderNumber, s: &[u8]) -> Frame {
     let way = text::word(s);
     let rest = text::after_word(s);
-    if check::same(way, b"command") {
+    if way == b"command".as_slice() {
         return order_command(session, number, rest);
     }
     let NumberRead::Of(n) = arguments::number_of(rest, u16::MAX as u64) else {
         return Frame::malformed();
     };
     let step = arguments::short(n);
-    if check::same(way, b"raise") {
+    if way == b"raise".as_slice() {
         return Frame::order(session, number, Change::raise(step));
     }
-    if check::same(way, b"lower") {
+    if way == b"lower".as_slice() {
         return Frame::order(session, number, Change::lower(step));
     }
     Frame::malformed()
@@ -103,7 +103,7 @@ fn order_command(session: SessionId, number: OrderNumber, s: &[u8]) -> Frame {
         return Frame::malformed();
     };
     let rest = text::after_word(s);
-    let mut body = io::buffer();
+    let mut body = [0u8; LINE_LIMIT];
     let read = arguments::bytes(rest, &mut body, 0);
     if read.end < rest.len() {
         return Frame::malformed();

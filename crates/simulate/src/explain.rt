@@ -21,7 +21,7 @@ fn numbered(n: u64, s: &[u8]) -> Asked {
     if n <= LAST_PLAIN {
         return plain(n, s);
     }
-    if check::same(text::word(s), b"at") {
+    if text::word(s) == b"at".as_slice() {
         return with_offset(n, text::after_word(s));
     }
     unknown()

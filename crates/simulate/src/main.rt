@@ -29,9 +29,10 @@ mod whole;
 mod world;
 
 use asked::Action;
-use buffers::{LINE_LIMIT, Memory, Output, Page};
-use libc::STDIN_FILENO;
+use buffers::{BLOCK_LIMIT, Block, LINE_LIMIT, Memory, Output, Page};
 use offices::Played;
+use std::io;
+use std::io::{Read, Stdin};
 use world::Notes;
 
 // How many bytes were read, and whether the input has ended.
@@ -80,7 +81,7 @@ fn read(
         if bytes.len() <= end {
             return Played { world, offices };
         }
-        let begun = whole::begun(notes, line, out);
+        let begun = whole::begun(notes, line, &mut *out);
         let asked = whole::asked(begun, line, &mut *memory);
         let action = asked.action;
         world.notes = begun;
@@ -131,27 +132,32 @@ fn read(
 }
 
 // At the end of the input one newline is read, since a last line may have none.
-fn read_input(input: &mut Output) -> Input {
-    let got = libc::read(STDIN_FILENO, &mut *input);
-    let n = io::count(got, input);
+fn read_input(mut from: Stdin, input: &mut Block) -> io::Result<Input> {
+    let n = from.read(&mut *input)?;
     if n == 0 {
         input[0] = b'\n';
-        return Input { len: 1, over: true };
+        return Ok(Input { len: 1, over: true });
     }
-    Input {
+    Ok(Input {
         len: n,
         over: false,
-    }
+    })
 }
 
-fn first(input: &Output, len: usize) -> &[u8] {
+fn first(input: &Block, len: usize) -> &[u8] {
     text::part(input, 0, len)
 }
 
 // One read. What it prints is written before the next one, so that whoever types sees each answer at once.
-fn turn(played: Played, line: &mut Page, memory: &mut Memory, out: &mut Output) -> Played {
-    let mut input = io::large_buffer();
-    let got = read_input(&mut input);
+fn turn(
+    from: Stdin,
+    played: Played,
+    line: &mut Page,
+    memory: &mut Memory,
+    out: &mut Output,
+) -> io::Result<Played> {
+    let mut input = [0u8; BLOCK_LIMIT];
+    let got = read_input(from, &mut input)?;
     let next = read(
         played,
         first(&input, got.len),
@@ -162,28 +168,32 @@ fn turn(played: Played, line: &mut Page, memory: &mut Memory, out: &mut Output) 
     let mut world = next.world;
     let offices = next.offices;
     let at = whole::tally(world.notes, got.over, &mut *out);
-    let gathered = print::flush(out, at);
+    let gathered = print::flush(&mut *out, at);
+    out.written?;
     world.notes.gathered = gathered;
     world.notes.over = got.over;
-    Played { world, offices }
+    Ok(Played { world, offices })
 }
 
-// A proved loop has to end, and an input need not. So the reads are counted down, from a number that no run uses up.
-fn play(line: &mut Page, memory: &mut Memory, out: &mut Output) {
+// A proved loop has to end, and an input need not. So the reads are counted, up to a number that no run uses up.
+fn play(from: Stdin, line: &mut Page, memory: &mut Memory, out: &mut Output) -> io::Result<()> {
     let mut played = offices::first();
-    let mut reads = u64::MAX;
-    while 0 < reads {
-        reads -= 1;
-        played = turn(played, &mut *line, &mut *memory, &mut *out);
+    for _ in 0..u64::MAX {
+        played = turn(from, played, &mut *line, &mut *memory, &mut *out)?;
         if played.world.notes.over {
-            return;
+            return Ok(());
         }
     }
+    Ok(())
 }
 
-fn main() {
-    let mut line = io::buffer();
+fn main(rt: HostRuntime) -> io::Result<()> {
+    let mut line = [0u8; LINE_LIMIT];
     let mut memory = frames::none_kept();
-    let mut out = io::large_buffer();
-    play(&mut line, &mut memory, &mut out);
+    let mut out = Output {
+        bytes: [0; BLOCK_LIMIT],
+        to: rt.stdout(),
+        written: Ok(()),
+    };
+    play(rt.stdin(), &mut line, &mut memory, &mut out)
 }

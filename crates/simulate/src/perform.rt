@@ -1,6 +1,6 @@
 // What a line asks for is done, and its answer printed. The calls at box and office are in ends.
 use crate::asked::{Asked, Heard, Holder, Lent, Made, Said, Task, Told};
-use crate::buffers::{Memory, Output};
+use crate::buffers::{LINE_LIMIT, Memory, Output};
 use crate::world::{Notes, World};
 use crate::{asked, bench, describe, encoding, ends, explain, held, packets, print, show, streams};
 use frame::SessionId;
@@ -51,7 +51,7 @@ fn room(mut world: World, n: usize, out: &mut Output) -> World {
 
 // bus BYTES, exchange write BYTES, exchange read BYTES
 fn bus(mut world: World, heard: Heard, bytes: &[u8], out: &mut Output) -> World {
-    let mut sent = io::buffer();
+    let mut sent = [0u8; LINE_LIMIT];
     world.bench = controller::exchange_all(world.bench, bytes, &mut sent);
     let heard_bytes = text::part(&sent, 0, bytes.len());
     let at = bench::told(&mut *out, world.notes.gathered, heard, heard_bytes);

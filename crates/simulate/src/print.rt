@@ -3,34 +3,35 @@ use crate::asked::Fault;
 use crate::buffers::Output;
 use base::{FrameFault, Refusal};
 use frame::Verdict;
-use libc::STDOUT_FILENO;
+use itoa::Buffer;
 
 // Writes what is gathered.
-pub(crate) fn flush(out: &Output, at: usize) -> usize {
-    io::write_all(STDOUT_FILENO, text::part(out, 0, at));
+pub(crate) fn flush(out: &mut Output, at: usize) -> usize {
+    if out.written.is_ok() {
+        out.written = out.to.write_all(text::part(&out.bytes, 0, at));
+    }
     0
 }
 
 // A place with room for len bytes.
-pub(crate) fn with_room(out: &Output, at: usize, len: usize) -> usize {
-    if at <= out.len() {
-        if len <= out.len() - at {
+pub(crate) fn with_room(out: &mut Output, at: usize, len: usize) -> usize {
+    if at <= out.bytes.len() {
+        if len <= out.bytes.len() - at {
             return at;
         }
     }
-    flush(out, at)
+    flush(&mut *out, at)
 }
 
 pub(crate) fn all(out: &mut Output, at: usize, s: &[u8]) -> usize {
-    let start = with_room(out, at, s.len());
-    base::store(s, &mut *out, start);
+    let start = with_room(&mut *out, at, s.len());
+    base::store(s, &mut out.bytes, start);
     std::num::wrapping_add_usize(start, s.len())
 }
 
 pub(crate) fn decimal(out: &mut Output, at: usize, n: u64) -> usize {
-    let mut digits = [0u8; 20];
-    let count = io::decimal(n, &mut digits);
-    all(&mut *out, at, &digits[..count])
+    let mut digits = Buffer::new();
+    all(&mut *out, at, digits.format(n).as_bytes())
 }
 
 fn number_at(numbers: &[u64], i: usize) -> u64 {

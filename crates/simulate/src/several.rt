@@ -57,13 +57,13 @@ fn empty(s: &[u8]) -> bool {
     if s.len() == 0 {
         return true;
     }
-    check::same(text::word(s), b"into")
+    text::word(s) == b"into".as_slice()
 }
 
 // The place behind a slash, or past the line's end where none stands.
 fn behind_slash(s: &[u8], at: usize) -> usize {
     let t = number::rest(s, at);
-    if check::same(text::word(t), b"/") {
+    if text::word(t) == b"/".as_slice() {
         return place(s, text::after_word(t));
     }
     std::num::wrapping_add_usize(s.len(), 1)
@@ -320,7 +320,7 @@ fn cut(s: &[u8], memory: &mut Memory) -> FramesRead {
             return frames;
         }
         let rest = text::after_word(t);
-        if check::same(text::word(t), b"/") {
+        if text::word(t) == b"/".as_slice() {
             return with_bytes(frames, rest, &mut *memory);
         }
         match arguments::number_of(text::word(t), u64::MAX) {

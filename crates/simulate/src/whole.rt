@@ -12,18 +12,15 @@ const ANSWER_LIMIT: usize = 28672;
 fn arrow(s: &[u8]) -> usize {
     let at = text::find(s, 0, b'>');
     let from = std::num::wrapping_sub_usize(at, 2);
-    if check::same(
-        text::part(s, from, std::num::wrapping_add_usize(at, 1)),
-        b" ->",
-    ) {
+    if text::part(s, from, std::num::wrapping_add_usize(at, 1)) == b" ->".as_slice() {
         return from;
     }
     s.len()
 }
 
 // The line has ended: what stands behind `#` is no part of it.
-pub(crate) fn begun(mut notes: Notes, line: &Page, out: &Output) -> Notes {
-    let at = print::with_room(out, notes.gathered, ANSWER_LIMIT);
+pub(crate) fn begun(mut notes: Notes, line: &Page, out: &mut Output) -> Notes {
+    let at = print::with_room(&mut *out, notes.gathered, ANSWER_LIMIT);
     notes.gathered = at;
     notes.answer = at;
     notes.line = std::num::wrapping_add_u64(notes.line, 1);
@@ -75,7 +72,7 @@ fn trimmed(s: &[u8]) -> &[u8] {
 fn compared(mut notes: Notes, expected: &[u8], out: &mut Output) -> Notes {
     let at = notes.gathered;
     let end = std::num::wrapping_sub_usize(at, 1);
-    if check::same(text::part(out, notes.answer, end), expected) {
+    if text::part(&out.bytes, notes.answer, end) == expected {
         notes.same = std::num::wrapping_add_u64(notes.same, 1);
         return notes;
     }
