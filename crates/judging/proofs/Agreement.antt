@@ -21,6 +21,7 @@ use Rattle.judging.specs.declared.End.TheVariants.{Box, Office}
 use Rattle.judging.specs.Decoding.{contents_length, field_length, contents, is_first, is_change, is_for, length_right, contents_allowed, unless, field_fault, end_fault, last_fault, rest_fault, fault_told, frame_in, Decoded, a_fault, a_frame, decoded, decode}
 use Rattle.judging.specs.Faults.{among, first_tags, second_tags, tags_for, other, tag_at, length_at, end_at, place, places_behind, places, needed, wrong_length, wrong_contents, ends_early, unexpected_tag, unexpected_length, unexpected_contents, goes_on, for_other_end, tests, faults, Least}
 use Rattle.judging.specs.Theorems.{Tells, TellsLeast, FaultExact}
+use Rattle.judging.proofs.Carried.{agree_equal, refusal_same}
 use Rattle.judging.proofs.Exact.{FirstTag, tag_opening, tag_welcome, tag_order, tag_ack, tag_refuse, first_tag, field_right}
 use Rattle.judging.proofs.Least.{first_at, first_of, NumbersFrom, OffsetsFrom, TellsFirst, first_least, one_least}
 
@@ -41,13 +42,6 @@ not_zero n = go (eqb n 0) refl
     go true e = rw (e, lt-leb 1 n (omega (arith, eqb-true n 0 e)))
     go false e = rw (e, le-leb 1 n (omega (arith, eqb-false n 0 e)))
 
--- tests of a byte that agree at each of the 256, by computing
-agree_equal : (x y : Bool) → T (beq x y) → x ≡ y
-agree_equal true true t = refl
-agree_equal true false t = absurd t
-agree_equal false true t = absurd t
-agree_equal false false t = refl
-
 first_same : (tag : ℕ) → tag < 256 → is_first tag ≡ among tag first_tags
 unfolding all_below
 first_same tag h = agree_equal _ _ (below_each 256 (λ n. beq (is_first n) (among n first_tags)) tt tag h)
@@ -55,17 +49,6 @@ first_same tag h = agree_equal _ _ (below_each 256 (λ n. beq (is_first n) (amon
 change_same : (tag : ℕ) → tag < 256 → is_change tag ≡ among tag (second_tags 0x12)
 unfolding all_below
 change_same tag h = agree_equal _ _ (below_each 256 (λ n. beq (is_change n) (among n (second_tags 0x12))) tt tag h)
-
-abbrev carried : ℕ → Bool → Bool
-carried r zero = among r (5 ∷ 6 ∷ 7 ∷ []) || (among r (14 ∷ 15 ∷ 16 ∷ 17 ∷ 18 ∷ 19 ∷ []) && zero)
-
-abbrev allowed : ℕ → Bool → Bool
-allowed r zero = cond (leb 5 r && leb r 7) true (leb 14 r && leb r 19 && zero)
-
-refusal_same : (r : ℕ) → r < 256 → (zero : Bool) → carried r zero ≡ allowed r zero
-unfolding all_below
-refusal_same r h true = agree_equal _ _ (below_each 256 (λ n. beq (carried n true) (allowed n true)) tt r h)
-refusal_same r h false = agree_equal _ _ (below_each 256 (λ n. beq (carried n false) (allowed n false)) tt r h)
 
 -- ---- a tag's lengths and contents, in the table and in the tests
 

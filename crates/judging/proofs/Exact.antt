@@ -1,5 +1,5 @@
 -- Bytes decode to a frame exactly where they are a valid frame's encoding, meant for this end.
-use Prim.Native.Nat.{ℕ, suc, ◌+◌, ◌<◌, ◌≤◌}
+use Prim.Native.Nat.{ℕ, suc, ◌+◌, ◌≤◌}
 use native.Mathlib.Nat.{le_antisymm}
 use native.Mathlib.Omega.{arith}
 use mathlib.Core.Path.{◌≡◌, refl, sym, ap, subst, ◌∙◌}
@@ -50,9 +50,10 @@ use Rattle.link.specs.Encoding.{
 }
 use Rattle.judging.specs.declared.End.{End}
 use Rattle.judging.specs.declared.End.TheVariants.{Box, Office}
-use Rattle.judging.specs.Decoding.{contents_length, field_length, contents, is_first, is_change, is_for, length_right, same, settings_allowed, refusal_allowed, contents_allowed, unless, field_fault, end_fault, last_fault, rest_fault, fault_told, change_in, frame_in, a_frame, decoded, decode}
+use Rattle.judging.specs.Decoding.{contents_length, field_length, contents, is_first, is_change, is_for, length_right, same, settings_allowed, contents_allowed, unless, field_fault, end_fault, last_fault, rest_fault, fault_told, change_in, frame_in, a_frame, decoded, decode}
 use Rattle.judging.specs.Theorems.{reader, DecodeExact, DecodeEncode}
 use Rattle.judging.specs.View.{frame_read}
+use Rattle.judging.proofs.Carried.{refuse_valid}
 use Rattle.judging.proofs.Fields.{parted}
 use Rattle.judging.proofs.Valid.{valid_told}
 
@@ -183,16 +184,6 @@ ack_encodes d h long =
       meant = refl;
       encoded = ap (field 0x13) (numbered_written d h (eqb-true (length d) 6 long));
     }
-
-refuse_valid : (s r : ℕ) → s < 4294967296 → refusal_allowed s r ≡ true → Valid (refuse s r)
-refuse_valid s r hs e = go (leb 5 r && leb r 7) refl e
-  where
-    go : (t : Bool) → leb 5 r && leb r 7 ≡ t → cond t true (leb 14 r && leb r 19 && eqb s 0) ≡ true → Valid (refuse s r)
-    go true q p = let range = both_true (leb 5 r) (leb r 7) q in valid_refuse hs (leb-true 5 r range.0) (leb-true r 7 range.1)
-    go false q p =
-        let both = both_true (leb 14 r && leb r 19) (eqb s 0) p in
-        let range = both_true (leb 14 r) (leb r 19) both.0 in
-        valid_refuse_fault (eqb-true s 0 both.1) (leb-true 14 r range.0) (leb-true r 19 range.1)
 
 refuse_encodes : (d : List ℕ) → Bytes d → length_right 0x14 (length d) ≡ true → contents_allowed 0x14 d ≡ true → Encodes Office (field 0x14 d)
 unfolding length_right contents_allowed encode
