@@ -1,12 +1,12 @@
 -- Safety of a call at the box: the invariant holds after it.
-use Prim.Native.Nat.{ℕ, ◌+◌, ◌-◌, ◌<◌, ◌≤◌, max}
+use Prim.Native.Nat.{ℕ, ◌+◌, ◌-◌, ◌<◌, ◌≤◌}
 use native.Mathlib.Omega.{arith}
 use mathlib.Core.Path.{◌≡◌, refl, sym, ap, ◌∙◌, subst}
 use mathlib.Core.Bool.{true, cond}
 use mathlib.Core.List.Memᴰ
 use mathlib.Core.List.{List, [], ◌∷◌, ◌++◌, append-nil, append_assoc, Memᴰ}
 use mathlib.Core.Logic.{inl, inr}
-use mathlib.Core.Option.{Option, none, some, get_or, some-injective, none-ne-some}
+use mathlib.Core.Option.{Option, none, some, get_or, some-injective}
 use lib.ListN.{length, get_elem?}
 use lib.Seq.{take_all}
 use lib.Dec.{eqb, leb, ltb}
@@ -14,7 +14,6 @@ use borrow.Author.Tests.{eqb-true, ltb-true}
 use Rattle.base.proofs.Tests.{cond_cases}
 use Rattle.settings.specs.Settings.{fresh}
 use Rattle.settings.specs.Range.{Held}
-use Rattle.settings.proofs.RangeLaws.{fresh_held}
 use Rattle.base.specs.Refusal.{Told, plain}
 use Rattle.frame.specs.Frame.{Change, ValidChange, Frame, welcome, ack, refuse}
 use Rattle.link.specs.Encoding.{Valid, valid_opening, valid_welcome, valid_order, valid_ack, valid_refuse, valid_refuse_fault}
@@ -26,9 +25,11 @@ use Rattle.outcome.specs.Turn.{Turn, wrote, silent, refused, refused_by}
 use Rattle.outcome.specs.Batch.{Outcome, alone}
 use Rattle.session.specs.Calls.{answer_of, frames_of, reply_of, updated, Log, with_frames, logged_at_box, FitsSession}
 use Rattle.session.specs.History.{taken_along, Rising, BoxHistory, NamedBy, History, settings_after, restarted, with_session, with_taken, is_open, rule_open, rule_order, rule_box_frame}
+use Rattle.session.proofs.BoxFollows.{BoxFollows, taken_first, restart_follows, begun_held}
+use Rattle.session.proofs.RuleTests.{is_higher}
 use Rattle.session.proofs.Tools.{updated_same, updated_other, updated_each, updated_by_own, get_elem?_below, length_one_more}
 use Rattle.session.proofs.Tools.{Prefix, prefix_length, prefix_next, EachDecodes, decodes_weaker, decodes_one_more, decoded_at}
-use Rattle.session.proofs.Invariant.{settings_next, Request, request_opening, request_order, Reply, reply_welcome, reply_ack, reply_refuse, RowSafe, BoxSafe, OfficeSafe, Safe, request_reader}
+use Rattle.session.proofs.Invariant.{settings_next, Request, request_opening, request_order, Reply, reply_welcome, reply_ack, reply_refuse, RowSafe, OfficeSafe, Safe, request_reader}
 use Rattle.session.proofs.Row.{rising_one_more, below_last, along_one_more, along_same}
 
 abbrev pub BoxOutcomeSafe : History → Log → Outcome BoxHistory → Type 0
@@ -36,15 +37,6 @@ BoxOutcomeSafe h l t = Safe (record { box = t.state; offices = h.offices }) (log
 
 abbrev pub BoxTurnSafe : History → Log → Turn BoxHistory → Type 0
 BoxTurnSafe h l t = BoxOutcomeSafe h l (alone t)
-
--- what is asked of the box's next history: its own part of the invariant, that true replies stay true, and that what it took was issued
-pub record BoxFollows (h : History) (l : Log) (b : BoxHistory) : Type 0 where
-  box : BoxSafe b
-  stays : (f : Frame) → Reply h.box f → Reply b f
-  prefix : (i s : ℕ) → NamedBy h.offices i s → Prefix (b.taken s) ((h.offices i).issued s)
-  untaken : (s : ℕ) → (Memᴰ s l.named → ⊥) → b.taken s ≡ []
-  own_office : (s : ℕ) → Memᴰ s b.since_restart → (i : ℕ) × NamedBy h.offices i s
-  highest : max l.highest (get_or b.session 0) ≡ b.highest
 
 open_session : (session : Option ℕ) (s : ℕ) → is_open session s ≡ true → session ≡ some s
 open_session none s e = cc
@@ -90,15 +82,12 @@ module _ (h : History) (l : Log) (safe : Safe h l) where
 
   -- ---- nothing changes
 
-  taken_first : (i s : ℕ) → NamedBy h.offices i s → Prefix (h.box.taken s) ((h.offices i).issued s)
-  taken_first i s = ((safe.offices i).sessions s).prefix
-
   unchanged : BoxFollows h l h.box
   unchanged =
       record {
         box = safe.box;
         stays = λ _ reply. reply;
-        prefix = taken_first;
+        prefix = taken_first h l safe;
         untaken = safe.untaken;
         own_office = safe.own_office;
         highest = let bounded = safe.box.bounded in omega (arith, safe.highest);
@@ -117,35 +106,13 @@ module _ (h : History) (l : Log) (safe : Safe h l) where
   replied_ack : (i s : ℕ) → NamedBy h.offices i s → FitsSession s → BoxTurnSafe h l (wrote h.box (ack s (length (h.box.taken s))))
   replied_ack i s named fits =
       replied none (ack s (length (h.box.taken s)))
-      (valid_ack fits (omega (arith, prefix_length (h.box.taken s) ((h.offices i).issued s) (taken_first i s named), ((safe.offices i).sessions s).counted)))
+      (valid_ack fits (omega (arith, prefix_length (h.box.taken s) ((h.offices i).issued s) (taken_first h l safe i s named), ((safe.offices i).sessions s).counted)))
       (reply_ack (omega arith))
 
   -- ---- a restart
 
-  restart_follows : (told : ℕ) → told ≡ l.highest → BoxFollows h l (restarted h.box told)
-  restart_follows told e =
-      record {
-        box = record {
-          bounded = omega arith;
-          above = λ s higher. safe.box.above s (omega (arith, safe.highest));
-          followed = λ s here. absurd (none-ne-some s here);
-          row = record { rising = tt; below = λ _ m. absurd (Memᴰ.not-nil m); last = λ s here. absurd (none-ne-some s here); along = refl };
-          held = fresh_held;
-        };
-        stays = stays;
-        prefix = taken_first;
-        untaken = safe.untaken;
-        own_office = λ _ m. absurd (Memᴰ.not-nil m);
-        highest = omega arith;
-      }
-    where
-      stays : (f : Frame) → Reply h.box f → Reply (restarted h.box told) f
-      stays _ (reply_welcome {s = s} below settings) = reply_welcome {s = s} (omega (arith, safe.highest)) settings
-      stays _ (reply_ack count) = reply_ack count
-      stays _ reply_refuse = reply_refuse
-
   pub restart_safe : (told : ℕ) → told ≡ l.highest → BoxTurnSafe h l (silent (restarted h.box told))
-  restart_safe told e = box_silent (restarted h.box told) (restart_follows told e) none
+  restart_safe told e = box_silent (restarted h.box told) (restart_follows h l safe told e) none
 
   -- ---- a session opens above the highest: it was never open, and nothing was taken in it
 
@@ -176,14 +143,14 @@ module _ (h : History) (l : Log) (safe : Safe h l) where
         }
 
     held_still : Held begun.settings
-    held_still = safe.box.held
+    held_still = begun_held h.box s safe.box.held
 
     opened_follows : BoxFollows h l (opened h.box.taken)
     opened_follows =
         record {
           box = record { bounded = omega arith; above = λ t above. safe.box.above t (omega arith); followed = followed; row = opened_row; held = held_still };
           stays = stays;
-          prefix = taken_first;
+          prefix = taken_first h l safe;
           untaken = safe.untaken;
           own_office = λ t m. either t m (safe.own_office t) (λ e. (i, Memᴰ.cast e named));
           highest = omega (arith, safe.highest);
@@ -227,7 +194,7 @@ module _ (h : History) (l : Log) (safe : Safe h l) where
   open_safe : (i s : ℕ) → NamedBy h.offices i s → FitsSession s → BoxTurnSafe h l (rule_open h.box s)
   unfolding rule_open
   open_safe i s named fits =
-      cond_cases (BoxTurnSafe h l) (ltb h.box.highest s) _ _ (λ e. opened_safe i s named (ltb-true _ _ e) fits)
+      cond_cases (BoxTurnSafe h l) (is_higher h.box s) _ _ (λ e. opened_safe i s named (ltb-true _ _ e) fits)
       (λ _. cond_cases (BoxTurnSafe h l) (is_open h.box.session s) _ _ (λ e. again_safe i s named fits (open_session _ s e))
       (λ _. replied_refuse s 6 fits (omega arith) (omega arith)))
 
@@ -271,8 +238,8 @@ module _ (h : History) (l : Log) (safe : Safe h l) where
     first_now j =
         updated_each h.box.taken s taken_now (λ t taken. NamedBy h.offices j t → Prefix taken ((h.offices j).issued t))
         (λ m. subst (λ (n : ℕ). Prefix taken_now ((h.offices n).issued s)) (safe.apart i j s named m)
-        (prefix_next (h.box.taken s) ((h.offices i).issued s) c (taken_first i s named) next))
-        (λ t _. taken_first j t)
+        (prefix_next (h.box.taken s) ((h.offices i).issued s) c (taken_first h l safe i s named) next))
+        (λ t _. taken_first h l safe j t)
 
     taken_follows : ValidChange c → BoxFollows h l (with_taken h.box s c)
     taken_follows valid =

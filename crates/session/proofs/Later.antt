@@ -17,6 +17,7 @@ use Rattle.outcome.specs.Batch.{cut, Outcome}
 use Rattle.outcome.specs.Turn.{Turn}
 use Rattle.session.specs.Calls.{BoxCall, restart, box_frame, box_frames}
 use Rattle.session.specs.History.{BoxHistory, Closed, with_session, with_taken, is_open, rule_open, rule_order, rule_box_frame, misfit, last_state, frames_singly, rule_box_frames, rules_at_box}
+use Rattle.session.proofs.RuleTests.{is_higher}
 use Rattle.session.proofs.Tools.{updated_other}
 
 -- the sessions that are closed in b take no further order
@@ -67,7 +68,7 @@ module _ (b : BoxHistory) (bounded : get_or b.session 0 ≤ b.highest) where
   open_later : (s : ℕ) → LaterTurn b (rule_open b s)
   unfolding rule_open
   open_later s =
-      cond_cases (LaterTurn b) (ltb b.highest s) _ _ (opened_later s)
+      cond_cases (LaterTurn b) (is_higher b s) _ _ (opened_later s)
       (λ _. cond_cases (LaterTurn b) (is_open b.session s) _ _
       (λ _. cond_cases (LaterTurn b) (eqb (length (b.taken s)) 0) _ _ (λ _. kept) (λ _. kept)) (λ _. kept))
 

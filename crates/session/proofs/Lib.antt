@@ -7,7 +7,10 @@ pub mod OfficeAlike
 pub mod Alike
 -- safety: an invariant of the history along every allowed list
 pub mod Safety
+pub mod RuleTests
+pub mod BoxFollows
 pub mod BoxSafe
+pub mod Opening
 pub mod OfficeSafe
 pub mod BatchSafe
 pub mod Invariant

@@ -3,7 +3,6 @@ use Prim.Native.Nat.{ℕ, ◌+◌, ◌-◌, ◌<◌, ◌≤◌}
 use native.Mathlib.Omega.{arith}
 use mathlib.Core.Path.{◌≡◌, refl, sym, ap, ◌∙◌, subst}
 use mathlib.Core.Bool.{Bool, true, false, ◌&&◌, ◌||◌}
-use mathlib.Core.List.Memᴰ
 use mathlib.Core.List.{List, [], ◌∷◌, ◌++◌, Memᴰ}
 use mathlib.Core.Logic.{◌⊎◌, inl, inr}
 use mathlib.Core.Option.{Option, none, some, none-ne-some}
@@ -24,6 +23,8 @@ use Rattle.session.specs.Calls.{answer_of, refusals, updated, Log, named_unless,
 use Rattle.session.specs.History.{is_awaiting, is_live, BoxHistory, NamedBy, OfficeHistory, History, settings_after, orders, with_opening, with_welcome, with_issued, with_confirmed, with_end, unanswered, sent_again}
 use Rattle.session.specs.History.{rule_opening, rule_issue, rule_resend, rule_reopen, rule_welcome, rule_ack, rule_refuse, rule_office_frame}
 use Rattle.session.proofs.Alike.{cond_both}
+use Rattle.session.proofs.Opening.{opening_now, now_known, now_sessions, now_keeps, now_new}
+use Rattle.session.proofs.RuleTests.{welcome_heeded, ack_heeded}
 use Rattle.session.proofs.Tools.{impossible, updated_same, updated_other, updated_each, updated_by_own, get_elem?_below, get_elem?_append, get_elem?_last, get_elem?_each, length_one_more}
 use Rattle.session.proofs.Tools.{prefix_append, EachDecodes, decodes_weaker, decodes_one_more, decoded_at}
 use Rattle.session.proofs.Invariant.{settings_next, Request, request_opening, request_order, Reply, SessionSafe, OfficeSafe, Safe, none_confirmed, opened_by, reply_reader}
@@ -160,46 +161,33 @@ module _ (box : BoxHistory) (others : ℕ → OfficeHistory) (i : ℕ) where
     -- ---- a session is named: nothing was issued in it before, nor taken
 
     module _ (s : ℕ) (fits : FitsSession s) (new : Memᴰ s l.named → ⊥) where
-      abbrev opening_now : (ℕ → List Change) → OfficeHistory
-      opening_now issued = record { stage = (with_opening o s).stage; session = s; settings = (with_opening o s).settings; confirmed = 0; issued = issued; named = s ∷ o.named }
-
       unnamed : Memᴰ s o.named → ⊥
       unnamed m = new (old.known s m)
 
-      session_named : (t : ℕ) → SessionSafe t (s ∷ o.named) (o.issued t) (box.taken t)
-      session_named t =
-          let before = old.sessions t in
-          record {
-            unnamed = λ none_named. before.unnamed (λ m. none_named (Memᴰ.tail m));
-            counted = before.counted;
-            valid = before.valid;
-            prefix = λ m. elim m [ Memᴰ.head e ↦ rw (ap box.taken e ∙ safe.untaken s new) | Memᴰ.tail older ↦ before.prefix older ];
-          }
-
-      opening_follows : OfficeFollows (s ∷ l.named) (opening_now o.issued)
+      opening_follows : OfficeFollows (s ∷ l.named) (opening_now o s o.issued)
       opening_follows =
           record {
             office = record {
               fits = fits;
-              known = λ t m. elim m [ Memᴰ.head e ↦ Memᴰ.head e | Memᴰ.tail older ↦ Memᴰ.tail (old.known t older) ];
+              known = now_known o s box l.named old;
               own = λ _. Memᴰ.head refl;
-              sessions = session_named;
+              sessions = now_sessions o s box l.named old (safe.untaken s new);
               confirmed = none_confirmed box s;
               while_awaiting = λ _. (old.sessions s).unnamed unnamed;
               while_live = impossible;
             };
             all_named = λ _ m. Memᴰ.tail m;
-            keeps = λ _ m. Memᴰ.tail m;
-            adds_new = λ t m known. elim m [ Memᴰ.head e ↦ absurd (new (Memᴰ.cast (sym e) known)) | Memᴰ.tail older ↦ older ];
+            keeps = now_keeps o s;
+            adds_new = now_new o s l.named new;
             issued_stay = λ _ _ _ e. e;
           }
 
       named_safe : Safe (among (with_opening o s)) (logged_at_office l (answer_of (alone (wrote (with_opening o s) (opening s)))) (s ∷ l.named))
       named_safe =
-          let now = opening_now o.issued in
+          let now = opening_now o s o.issued in
           let named_now : NamedBy (updated others i now) i s = subst (λ (x : OfficeHistory). Memᴰ s x.named) (sym (updated_same others i now)) (Memᴰ.head refl) in
           let requests = decodes_weaker _ _ safe.requests _ (requests_stay (s ∷ l.named) now opening_follows) in
-          subst (λ (issued : ℕ → List Change). Safe (among (opening_now issued)) (logged_at_office l (answer_of (alone (wrote (with_opening o s) (opening s)))) (s ∷ l.named)))
+          subst (λ (issued : ℕ → List Change). Safe (among (opening_now o s issued)) (logged_at_office l (answer_of (alone (wrote (with_opening o s) (opening s)))) (s ∷ l.named)))
           (sym (updated_by_own o.issued s [] ((old.sessions s).unnamed unnamed)))
           (office_turn (s ∷ l.named) now opening_follows (encode (opening s) ∷ l.from_offices)
           (decodes_one_more _ _ requests (opening s) (valid_opening fits) (request_opening {i = i} named_now)))
@@ -325,7 +313,7 @@ module _ (box : BoxHistory) (others : ℕ → OfficeHistory) (i : ℕ) where
     welcome_safe : (s : ℕ) (σ : Settings) → Reply box (welcome s σ) → Safe (among (rule_welcome o s σ)) l
     unfolding rule_welcome
     welcome_safe s σ reply =
-        cond_cases (λ x. Safe (among x) l) (is_awaiting o.stage && eqb s o.session) _ _
+        cond_cases (λ x. Safe (among x) l) (welcome_heeded o s) _ _
         (λ both. let (waits, own) = both_true _ _ both in opened waits (rw (eqb-true s o.session own) at reply)) (λ _. safe)
       where
         welcomed_now : (ℕ → List Change) → OfficeHistory
@@ -350,7 +338,7 @@ module _ (box : BoxHistory) (others : ℕ → OfficeHistory) (i : ℕ) where
     ack_safe : (s k : ℕ) → Reply box (ack s k) → Safe (among (rule_ack o s k)) l
     unfolding rule_ack
     ack_safe s k reply =
-        cond_cases (λ x. Safe (among x) l) (is_live o.stage && eqb s o.session && ltb o.confirmed k && leb k (length (orders o))) _ _
+        cond_cases (λ x. Safe (among x) l) (ack_heeded o s k) _ _
         (λ all. let (lives, own) = both_true _ _ (both_true _ _ (both_true _ _ all).0).0 in news lives (rw (eqb-true s o.session own) at reply)) (λ _. safe)
       where
         news : is_live o.stage ≡ true → Reply box (ack o.session k) → Safe (among (with_confirmed o k)) l

@@ -28,6 +28,7 @@ use Rattle.session.specs.Limits.{window_limit, order_limit}
 use Rattle.session.specs.Office as office
 use Rattle.session.specs.Over.{TellsOver, refuse_reaches, OpensAnew, opening_accepted, is_over, OverFollows, EachCall}
 use Rattle.session.proofs.Batches.{orders_singly, issue_each_singly}
+use Rattle.session.proofs.RuleTests.{names_session}
 use Rattle.session.proofs.Tools.{updated_same, updated_other}
 
 -- ---- by the stage
@@ -183,7 +184,7 @@ module _ (i : ℕ) (e : Ends) where
     unfolding office.ended
     refuse_same s r decoded =
         cond_cases (Same o) (office.is_awaiting o.stage || office.is_live o.stage) _ _
-        (λ _. cond_cases (Same o) (eqb s o.session.0) _ _
+        (λ _. cond_cases (Same o) (names_session o s) _ _
         (λ own. cond_cases (Same o) (eqb r 5 || eqb r 6) _ _
         (λ number. absurd (untold (refuse_reaches (decoded ∙ ap (λ (t : ℕ). a_frame (refuse t r)) (eqb-true s o.session.0 own)) (which r number)))) (λ _. refl)) (λ _. refl))
         (λ _. refl)
