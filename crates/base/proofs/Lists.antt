@@ -1,4 +1,4 @@
--- One more element of a list, for the invariants of loops; and runs of stores.
+-- Runs of stores.
 use mathlib.Core.Path.{◌≡◌, sym, ◌∙◌}
 use mathlib.Core.List.{List, [], ◌∷◌, ◌++◌}
 use Prim.Native.Nat.{ℕ, suc, ◌+◌, ◌<◌, ◌≤◌}
@@ -6,14 +6,9 @@ use native.Mathlib.Nat.{zero-add, add-zero, add-suc, suc-add}
 use native.Mathlib.Numerals.{add-one}
 use native.Mathlib.Omega.{arith}
 use lib.ListN.{length, get_or, take, drop, set, length-append}
-use lib.Seq.{take-suc, drop-cons, set_out, sets, sets-eq, length-sets, length-take-le, set-append_seam, append_snoc}
+use lib.Seq.{drop-cons, set_out, sets, sets-eq, length-sets, length-take-le, set-append_seam, append_snoc}
+use Rattle.std.proofs.lemmas.List.{take_more}
 use Rattle.base.specs.Lent.{overwritten}
-
-pub take_more : (l : List ℕ) (i : ℕ) → i < length l → take (i + 1) l ≡ take i l ++ get_or l i 0 ∷ []
-take_more l i h = rw add-one (take-suc l i 0 h)
-
-pub drop_more : (l : List ℕ) (i : ℕ) → i < length l → drop i l ≡ get_or l i 0 ∷ drop (i + 1) l
-drop_more l i h = rw add-one (drop-cons l i 0 h)
 
 pub sets_append : (xs ys l : List ℕ) (i : ℕ) → sets (sets l i xs) (i + length xs) ys ≡ sets l i (xs ++ ys)
 sets_append [] ys l i = rw add-zero
@@ -24,7 +19,7 @@ pub sets_more : (l bytes : List ℕ) (k i : ℕ) → i < length bytes → sets l
 sets_more l bytes k i h =
     let passed : length (take i bytes) ≡ i = length-take-le i bytes (omega arith) in
     let place : k + length (take i bytes) ≡ i + k = omega arith in
-    rw (take_more bytes i h, ← sets_append (take i bytes) (get_or bytes i 0 ∷ []) l k, place)
+    rw (take_more bytes i 0 h, ← sets_append (take i bytes) (get_or bytes i 0 ∷ []) l k, place)
 
 -- the same where it has no room
 pub sets_left : (l bytes : List ℕ) (k i : ℕ) → i < length bytes → length l ≤ i + k → sets l k (take (i + 1) bytes) ≡ sets l k (take i bytes)

@@ -1,7 +1,7 @@
 -- What a refusal tells determines its case.
 use mathlib.Core.Path.{◌≡◌, refl, sym, ap, ◌∙◌}
 use mathlib.Core.List.{List, [], ◌∷◌}
-use Prim.Native.Nat.{◌-◌, ◌<◌}
+use Prim.Native.Nat.{ℕ, ◌-◌, ◌<◌}
 use native.Mathlib.Omega.{arith}
 use lib.ListN.{get_or}
 use Rattle.base.specs.declared.refusal.FrameFault.{FrameFault}
@@ -29,7 +29,7 @@ use Rattle.base.specs.declared.refusal.Refusal.TheVariants.{
   NothingToResend,
   Frame,
 }
-use Rattle.base.specs.Refusal.{fault_number, Told, plain, faulty, told, number, ToldDetermines, NumberDetermines}
+use Rattle.base.specs.Refusal.{fault, fault_number, Told, plain, faulty, told, number, ToldDetermines, NumberDetermines}
 
 -- by number; any case in the place of 0 and 4, which no refusal has
 by_number : List Refusal
@@ -56,7 +56,16 @@ faults = Truncated ∷ UnexpectedTag ∷ WrongLength ∷ InvalidContents ∷ Tra
 
 case_of : Told → Refusal
 case_of (plain n) = get_or by_number n NothingToResend
-case_of (faulty f) = Frame (get_or faults (f.number - 14) OtherEnd) f.offset
+case_of (faulty f) = Frame (record { kind = get_or faults (f.number - 14) OtherEnd; offset = f.offset })
+
+found_fault : (k : FrameFault) (offset : ℕ) → case_of (faulty (fault (fault_number k) offset)) ≡ Frame (record { kind = k; offset = offset })
+unfolding case_of by_number faults
+found_fault Truncated offset = refl
+found_fault UnexpectedTag offset = refl
+found_fault WrongLength offset = refl
+found_fault InvalidContents offset = refl
+found_fault TrailingBytes offset = refl
+found_fault OtherEnd offset = refl
 
 found : (r : Refusal) → case_of (told r) ≡ r
 unfolding case_of by_number faults
@@ -72,12 +81,7 @@ found OfficeNotOpen = refl
 found InvalidReply = refl
 found IncompleteReply = refl
 found NothingToResend = refl
-found (Frame Truncated offset) = refl
-found (Frame UnexpectedTag offset) = refl
-found (Frame WrongLength offset) = refl
-found (Frame InvalidContents offset) = refl
-found (Frame TrailingBytes offset) = refl
-found (Frame OtherEnd offset) = refl
+found (Frame f) = found_fault f.kind f.offset
 
 pub told_determines : ToldDetermines
 told_determines r q e = sym (found r) ∙ ap case_of e ∙ found q
@@ -103,7 +107,7 @@ told_plain OfficeNotOpen h = refl
 told_plain InvalidReply h = refl
 told_plain IncompleteReply h = refl
 told_plain NothingToResend h = refl
-told_plain (Frame f offset) h = absurd (fault_high f h)
+told_plain (Frame f) h = absurd (fault_high f.kind h)
 
 pub number_determines : NumberDetermines
 number_determines r q h e = told_determines r q (told_plain r h ∙ ap plain e ∙ sym (told_plain q (rw e at h)))

@@ -1,4 +1,4 @@
--- Tests in definitions: the laws that decide one from what the code's own test showed, and a split of one into its cases.
+-- Tests in definitions: the laws that decide one from what the code's own test showed.
 use Prim.Native.Nat.{ℕ, zero, suc, ◌<◌}
 use native.Mathlib.Omega.{arith}
 use mathlib.Core.Path.{◌≡◌, refl, sym, subst}
@@ -7,10 +7,6 @@ use lib.Dec.{T, eqb}
 use borrow.Author.Tests.{lt-ltb, le-ltb, le-leb, lt-leb, eq-eqb, ne_eqb, eqb-true, eqb-false}
 
 pub ruleset tests = (lt-ltb, le-ltb, le-leb, lt-leb, eq-eqb, ne_eqb)
-
-pub cond_cases : {A : Type 0} (P : A → Type 0) (test : Bool) (a b : A) → (test ≡ true → P a) → (test ≡ false → P b) → P (cond test a b)
-cond_cases P true a b yes_case no_case = yes_case refl
-cond_cases P false a b yes_case no_case = no_case refl
 
 both_tests : (x y : Bool) → T (x && y) → T x × T y
 both_tests true y t = (tt, t)

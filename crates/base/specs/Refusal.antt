@@ -1,5 +1,6 @@
 -- The refusals' numbers: document 01, "Refusal numbers", whose 4 document 02's second request splits into 14 to 19.
 use Rattle.std.specs.Prelude.{◌≡◌, ℕ, ◌<◌}
+use Rattle.base.specs.declared.refusal.Fault.{Fault as FaultStruct}
 use Rattle.base.specs.declared.refusal.FrameFault.{FrameFault}
 use Rattle.base.specs.declared.refusal.FrameFault.TheVariants.{
   Truncated,
@@ -44,6 +45,9 @@ pub record Fault : Type 0 where
 abbrev pub fault : ℕ → ℕ → Fault
 fault number offset = record { number = number; offset = offset }
 
+abbrev pub fault_of : FaultStruct → Fault
+fault_of f = fault (fault_number f.kind) f.offset
+
 -- a number alone, or a fault
 pub data Told : Type 0 where
   plain : ℕ → Told
@@ -62,7 +66,7 @@ told OfficeNotOpen = plain 10
 told InvalidReply = plain 11
 told IncompleteReply = plain 12
 told NothingToResend = plain 13
-told (Frame f offset) = faulty (fault (fault_number f) offset)
+told (Frame f) = faulty (fault_of f)
 
 abbrev pub number_told : Told → ℕ
 number_told (plain n) = n

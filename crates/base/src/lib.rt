@@ -1,4 +1,4 @@
-// What every layer uses: why a call refused, what one answers that writes, and a run of bytes stored at a place.
+// What every layer uses: why a call refused, what one answers that writes, a run of bytes stored at a place, and bytes put at the front whole or not at all.
 #![tactic(auto)]
 
 mod place;
@@ -6,5 +6,5 @@ mod refusal;
 mod written;
 
 pub use place::store;
-pub use refusal::{FrameFault, Refusal};
-pub use written::Written;
+pub use refusal::{Fault, FrameFault, Refusal};
+pub use written::{Written, put};

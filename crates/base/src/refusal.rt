@@ -3,7 +3,7 @@ ghost use Rattle.std.specs.Prelude.{◌≡◌};
 ghost use Rattle.base.specs.Refusal.{number as number_of, fault_number};
 
 // Why a call refused.
-#[derive(Clone, Copy)]
+#[derive(Clone, Copy, PartialEq, Eq)]
 pub enum Refusal {
     OutputTooShort,
     DataTooLong,
@@ -17,22 +17,29 @@ pub enum Refusal {
     InvalidReply,
     IncompleteReply,
     NothingToResend,
-    // With the offset of the first byte of the field at fault.
-    Frame(FrameFault, usize),
+    Frame(Fault),
 }
 
-// What is wrong with a frame.
-#[derive(Clone, Copy)]
+// A frame's fault: what is wrong, and the offset of the first byte of the field at fault.
+#[derive(Clone, Copy, PartialEq, Eq)]
+pub struct Fault {
+    pub kind: FrameFault,
+    pub offset: usize,
+}
+
+// What is wrong with a frame: each kind's number.
+#[derive(Clone, Copy, PartialEq, Eq)]
 pub enum FrameFault {
-    Truncated,
-    UnexpectedTag,
-    WrongLength,
-    InvalidContents,
-    TrailingBytes,
-    OtherEnd,
+    Truncated = 14,
+    UnexpectedTag = 15,
+    WrongLength = 16,
+    InvalidContents = 17,
+    TrailingBytes = 18,
+    OtherEnd = 19,
 }
 
 impl Refusal {
+    // A match, since a case that holds a fault lets no case have a number of its own.
     pub fn number(self) -> u8
         ensures { result ≡ number_of self }
     {
@@ -49,7 +56,7 @@ impl Refusal {
             Refusal::InvalidReply => 11,
             Refusal::IncompleteReply => 12,
             Refusal::NothingToResend => 13,
-            Refusal::Frame(fault, _) => fault.number(),
+            Refusal::Frame(fault) => fault.kind.number(),
         }
     }
 }
@@ -58,13 +65,16 @@ impl FrameFault {
     pub fn number(self) -> u8
         ensures { result ≡ fault_number self }
     {
-        match self {
-            FrameFault::Truncated => 14,
-            FrameFault::UnexpectedTag => 15,
-            FrameFault::WrongLength => 16,
-            FrameFault::InvalidContents => 17,
-            FrameFault::TrailingBytes => 18,
-            FrameFault::OtherEnd => 19,
-        }
+        self as u8
+    }
+}
+
+impl From<Fault> for Refusal {
+    ghost use Rattle.base.specs.declared.refusal.Refusal.TheVariants.{Frame};
+
+    ghost from_gives = { λ fault refusal. refusal ≡ Frame fault };
+
+    fn from(fault: Fault) -> Refusal {
+        Self::Frame(fault)
     }
 }

@@ -11,22 +11,18 @@ use std::io::Read;
 // As many bytes as one read may give.
 const READ_LIMIT: usize = 4096;
 
-// As many bytes from the first on as an order's data can be.
-fn first(bytes: &[u8]) -> &[u8] {
-    if DATA_LIMIT < bytes.len() {
-        return &bytes[0..DATA_LIMIT];
-    }
-    bytes
-}
-
 // On standard error, the backlight after the bytes as an order's command byte and data.
-fn tell(rt: &impl Eprint, controller: Controller, bytes: &[u8]) -> io::Result<()> {
-    let made = Change::command(number::byte(bytes, 0), first(number::rest(bytes, 1)));
-    let settings = order::apply(controller.settings(), made.change);
-    eprintln!(rt; "{}", settings.backlight)
+fn tell(rt: &impl Eprint, controller: Controller, bytes: &[u8; READ_LIMIT]) -> io::Result<()> {
+    let settings = controller.settings();
+    let after = match Change::command(bytes[0], &bytes[1..=DATA_LIMIT]) {
+        Ok(change) => order::apply(settings, change),
+        Err(_) => settings,
+    };
+    eprintln!(rt; "{}", after.backlight)
 }
 
-// The input is fresh at each read, so the bytes told of at its end are zeros.
+// The input is fresh at each read, so the bytes told of at its end are zeros. A proved loop has to end, and an input need not: so it
+// counts its turns, up to a number that no run uses up.
 fn main(rt: HostRuntime) -> io::Result<()> {
     let mut controller = Controller::fresh();
     for _ in 0..u64::MAX {
@@ -36,8 +32,7 @@ fn main(rt: HostRuntime) -> io::Result<()> {
             return tell(&rt, controller, &input);
         }
         let mut output = [0u8; READ_LIMIT];
-        let after = exchange_all(controller, &input[..n], &mut output);
-        controller = after;
+        controller = exchange_all(controller, &input[..n], &mut output);
         rt.stdout().write_all(&output[..n])?;
     }
     Ok(())

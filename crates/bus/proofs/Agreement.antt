@@ -13,7 +13,7 @@ use lib.Dec.{eqb, ltb}
 use borrow.Author.Tests.{lt-ltb, le-ltb, eq-eqb, ne_eqb, lt-leb}
 use Rattle.packet.specs.Packet.{data_most, total, checksum}
 use Rattle.packet.proofs.PacketLaws.{checksum_snoc}
-use Rattle.base.proofs.Lists.{drop_more}
+use Rattle.std.proofs.lemmas.List.{drop_more}
 use Rattle.settings.specs.declared.settings.Settings.{Settings}
 use Rattle.settings.specs.Settings.{fresh as settings_fresh}
 use Rattle.settings.specs.declared.settings.Flag.TheVariants.{Incomplete, EscapeSeen, BytesIgnored, WrongChecksum}
@@ -99,7 +99,7 @@ module _ {v : ℕ} {us : List ℕ} {r : Outgoing} (u : Unsent (v ∷ us) r) wher
   unsent_parts : v ∷ us ≡ get_or r.bytes r.sent 0 ∷ drop (r.sent + 1) (take r.len r.bytes)
   unsent_parts =
       u.rest
-      ∙ drop_more (take r.len r.bytes) r.sent (simp length-take (omega (arith, some_unsent, u.within)))
+      ∙ drop_more (take r.len r.bytes) r.sent 0 (simp length-take (omega (arith, some_unsent, u.within)))
       ∙ rw (get_or-take r.len r.bytes r.sent 0 some_unsent)
 
   next_unsent : v ≡ get_or r.bytes r.sent 0

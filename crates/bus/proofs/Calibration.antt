@@ -4,22 +4,22 @@ use native.Mathlib.Omega.{arith}
 use mathlib.Core.Path.{◌≡◌, refl, sym, ap, ◌∙◌, subst}
 use mathlib.Core.Bool.{Bool, true, false, ◌&&◌, ◌||◌, and-false, or-true, true≢false, false≢true}
 use mathlib.Core.List.{List, [], ◌∷◌}
+use Rattle.std.specs.Prelude.{Option as StdOption, Some, None}
 use mathlib.Core.Option.{Option}
 use mathlib.Core.Logic.{◌⊎◌, inl, inr}
 use lib.Dec.{T, eqb, leb}
 use borrow.Author.Tests.{eqb-true, eq-eqb, ne_eqb, le-leb, lt-leb}
-use Rattle.base.proofs.Tests.{cond_cases, all_below, below_each}
+use Rattle.base.proofs.Tests.{all_below, below_each}
+use Rattle.std.proofs.lemmas.Bool.{cond_both}
 use Rattle.packet.specs.declared.writer.Access.TheVariants.{Write, Read}
 use Rattle.settings.specs.declared.settings.Settings.{Settings}
 use Rattle.settings.specs.declared.settings.Flag.TheVariants.{NotAvailable}
-use Rattle.settings.specs.Settings.{flagged, cleared, with_mode}
+use Rattle.settings.specs.Settings.{flagged, cleared}
 use Rattle.settings.proofs.StatusLaws.{cleared_flagged}
 use Rattle.bus.specs.declared.command.CommandRow.{CommandRow}
 use Rattle.bus.specs.declared.command.Register.TheVariants.{CalibrationMode}
 use Rattle.bus.specs.declared.command.Ways.TheVariants.{ReadWrite}
 use Rattle.bus.specs.declared.command.ModeRight.TheVariants.{MasterOn}
-use Rattle.bus.specs.declared.command.Lookup.{Lookup}
-use Rattle.bus.specs.declared.command.Lookup.TheVariants.{Found, Unknown}
 use Rattle.bus.specs.AsWritten.{Row, table, find, master_off, out_of_mode}
 use Rattle.bus.specs.Commands.{command_row, command_rows, find_row, lookup, access, offers, locked, written, failed, perform_offered, perform_found, perform_looked_up, perform}
 use Rattle.bus.specs.CommandTheorems.{Alike, known, Requested}
@@ -33,16 +33,16 @@ abbrev Each : (CommandRow → Type 0) → List CommandRow → Type 0
 Each P [] = Unit {0}
 Each P (row ∷ rows) = P row × Each P rows
 
-abbrev OfFound : (CommandRow → Type 0) → ℕ → Lookup → Type 0
-OfFound P id Unknown = Unit {0}
-OfFound P id (Found row) = P row × (row.id ≡ id)
+abbrev OfFound : (CommandRow → Type 0) → ℕ → StdOption CommandRow → Type 0
+OfFound P id None = Unit {0}
+OfFound P id (Some row) = P row × (row.id ≡ id)
 
 each_found : (P : CommandRow → Type 0) (id : ℕ) (rows : List CommandRow) → Each P rows → OfFound P id (find_row id rows)
 each_found P id [] all = tt
 each_found P id (row ∷ rows) all =
-    cond_cases (OfFound P id) (eqb id row.id) _ _ (λ e. (all.0, sym (eqb-true _ _ e))) (λ e. each_found P id rows all.1)
+    cond_both (eqb id row.id) _ _ (OfFound P id) (λ e. (all.0, sym (eqb-true _ _ e))) (λ e. each_found P id rows all.1)
 
-of_row : (P : CommandRow → Type 0) → Each P command_rows → (k : ℕ) (row : CommandRow) → lookup (k / 2) ≡ Found row → P row × (row.id ≡ k / 2)
+of_row : (P : CommandRow → Type 0) → Each P command_rows → (k : ℕ) (row : CommandRow) → lookup (k / 2) ≡ Some row → P row × (row.id ≡ k / 2)
 unfolding lookup
 of_row P all k row found = subst (OfFound P (k / 2)) found (each_found P (k / 2) command_rows all)
 
@@ -56,7 +56,7 @@ KeepsCalibration row = (σ : Settings) (d : List ℕ) → (written σ row.regist
 
 abbrev KeepsLevels : CommandRow → Type 0
 KeepsLevels row =
-    (σ : Settings) (d : List ℕ) → (written σ row.register d).calibration ≡ with_mode σ.calibration (written σ row.register d).calibration.mode
+    (σ : Settings) (d : List ℕ) → (written σ row.register d).calibration ≡ record σ.calibration { mode = (written σ row.register d).calibration.mode }
 
 record Keeps (row : CommandRow) : Type 0 where
   outside : within row.id ≡ false → KeepsCalibration row
@@ -104,18 +104,18 @@ calibration_kept σ k d other =
 pub levels_kept : LevelsKept
 unfolding flagged
 levels_kept σ k d is_mode =
-    command_keeps (λ (end : Settings). end.calibration ≡ with_mode σ.calibration end.calibration.mode) σ k d refl refl (λ flag. refl)
+    command_keeps (λ (end : Settings). end.calibration ≡ record σ.calibration { mode = end.calibration.mode }) σ k d refl refl (λ flag. refl)
     (λ row passed fits. let keeps = written_keeps σ k d row passed in keeps.0.mode (eq-eqb _ _ (keeps.1 ∙ is_mode)) σ d)
 
 -- ---- the mode right
 
 -- a write is locked by the paper's third check
-locked_as_written : (σ : Settings) (k : ℕ) {o : Option Row} {row : CommandRow} → Alike (k / 2) o (Found row) →
+locked_as_written : (σ : Settings) (k : ℕ) {o : Option Row} {row : CommandRow} → Alike (k / 2) o (Some row) →
     locked σ row Write ≡ master_off σ (k / 2) || out_of_mode σ (k / 2)
 locked_as_written σ k (known paper row at told) = subst (λ (id : ℕ). locked σ row Write ≡ master_off σ id || out_of_mode σ id) at (told.write_available σ)
 
 module _ (σ : Settings) (k : ℕ) (of : OfLevels k) where
-  locks : (row : CommandRow) → lookup (k / 2) ≡ Found row → (σ.calibration.mode ≡ 0) ⊎ MasterOff σ → locked σ row Write ≡ true
+  locks : (row : CommandRow) → lookup (k / 2) ≡ Some row → (σ.calibration.mode ≡ 0) ⊎ MasterOff σ → locked σ row Write ≡ true
   locks row found when = locked_as_written σ k (subst (Alike (k / 2) (find (k / 2) table)) found (table_alike (k / 2))) ∙ by_cases when
     where
       by_cases : (σ.calibration.mode ≡ 0) ⊎ MasterOff σ → master_off σ (k / 2) || out_of_mode σ (k / 2) ≡ true
@@ -131,9 +131,9 @@ levels_guarded σ k d of changed = (λ normal. changed (unchanged (inl normal)),
         (λ row passed fits. absurd (true≢false (sym (locks σ k of row passed.available.known.found when) ∙ passed.available.unlocked)))
 
 -- each of the five has a row that offers a write
-abbrev offered : Lookup → Bool
-offered Unknown = false
-offered (Found row) = offers row Write
+abbrev offered : StdOption CommandRow → Bool
+offered None = false
+offered (Some row) = offers row Write
 
 all_offered : T (all_below 5 (λ i. offered (lookup (0x65 + i))))
 unfolding all_below lookup
@@ -152,9 +152,9 @@ levels_refused σ k d of asked when = by_cases (lookup (k / 2)) refl (levels_off
     holds false t = elim t [ ]
     holds true t = refl
 
-    by_cases : (l : Lookup) → lookup (k / 2) ≡ l → T (offered l) → perform_looked_up l σ k d ≡ failed σ NotAvailable 0x04
-    by_cases Unknown found t = elim t [ ]
-    by_cases (Found row) found t = rw asked (simp (holds (offers row Write) t, locks σ k of row found when))
+    by_cases : (l : StdOption CommandRow) → lookup (k / 2) ≡ l → T (offered l) → perform_looked_up l σ k d ≡ failed σ NotAvailable 0x04
+    by_cases None found t = elim t [ ]
+    by_cases (Some row) found t = rw asked (simp (holds (offers row Write) t, locks σ k of row found when))
 
 -- ---- what is not refused for the mode
 
@@ -168,7 +168,7 @@ mode_written σ mode on fits = perform_writes σ 0xC8 (mode ∷ []) row passed (
     passed : Requested σ 0xC8 (mode ∷ []) row Write
     passed = record { available = record { known = record { found = refl; asked = refl }; offered = refl; unlocked = ne_eqb _ _ on }; whole = refl }
 
-read_available : (σ : Settings) (k : ℕ) {o : Option Row} {row : CommandRow} → Alike (k / 2) o (Found row) → (MasterOff σ → ⊥) →
+read_available : (σ : Settings) (k : ℕ) {o : Option Row} {row : CommandRow} → Alike (k / 2) o (Some row) → (MasterOff σ → ⊥) →
     (offers row Read ≡ true) × (locked σ row Read ≡ false)
 read_available σ k (known paper row at told) on = (told.reads, told.read_available σ ∙ simp (ne_eqb σ.switches.master 0 on))
 

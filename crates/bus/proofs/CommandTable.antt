@@ -5,6 +5,7 @@ use native.Mathlib.Omega.{arith}
 use mathlib.Core.Path.{◌≡◌, refl, sym, ap, ◌∙◌, subst}
 use mathlib.Core.Bool.{Bool, true, false, cond, ◌&&◌, ◌||◌, and-true, and-false}
 use mathlib.Core.List.{List, [], ◌∷◌, ◌++◌, foldr}
+use Rattle.std.specs.Prelude.{Option as StdOption, Some}
 use mathlib.Core.Option.{Option, some, some-injective, none-ne-some}
 use lib.ListN.{length, get_or, drop}
 use lib.Seq.{get_or-drop}
@@ -17,13 +18,11 @@ use Rattle.packet.specs.Reply.{success}
 use borrow.Author.Tests.{eqb-true}
 use Rattle.packet.specs.declared.writer.Access.TheVariants.{Write, Read}
 use Rattle.bus.specs.declared.command.CommandRow.{CommandRow}
-use Rattle.bus.specs.declared.command.Lookup.{Lookup}
-use Rattle.bus.specs.declared.command.Lookup.TheVariants.{Found}
 use Rattle.bus.specs.declared.command.Performed.{Performed}
 use Rattle.settings.specs.declared.settings.Settings.{Settings}
 use Rattle.settings.specs.declared.settings.Flag.{Flag}
 use Rattle.settings.specs.declared.settings.Flag.TheVariants.{NotAvailable, InvalidCommand, OutOfRange, WrongLength}
-use Rattle.settings.specs.Settings.{with_bezel, no_flags}
+use Rattle.settings.specs.Settings.{no_flags}
 use Rattle.bus.specs.declared.command.Register.{Register}
 use Rattle.bus.specs.declared.command.Register.TheVariants.{
   Backlight,
@@ -66,7 +65,8 @@ use Rattle.bus.specs.AsWritten.{
   command,
   command_found,
 }
-use Rattle.base.proofs.Tests.{cond_cases, if_both, unless_both}
+use Rattle.base.proofs.Tests.{if_both, unless_both}
+use Rattle.std.proofs.lemmas.Bool.{cond_both}
 use Rattle.bus.specs.CommandTheorems.{Described, Alike, unknown, known, TableAlike, ReadCounted, StatusFits, PerformedAlike}
 use Rattle.bus.proofs.StatusBits.{marked, marked_alike}
 
@@ -115,7 +115,7 @@ stored_bezel : (σ : Settings) (d : List ℕ) → written σ Bezel d ≡ stores_
 stored_bezel σ d =
     let horizontal = offset_signed (number_at 0 d) (get_or d 2 0) in
     let vertical : offset_from (drop 3 d) ≡ signed_at 3 d = rw (number_from 3 d, get_or-drop 3 d 2 0) (offset_signed (number_at 3 d) (get_or d 5 0)) in
-    λ i. with_bezel σ (record { horizontal = horizontal i; vertical = vertical i })
+    λ i. record σ { bezel = record { horizontal = horizontal i; vertical = vertical i } }
 
 stored_pixels : (σ : Settings) (d : List ℕ) → written σ Pixels d ≡ stores_pixels σ d
 stored_pixels σ d = rw (number_from 2 d, number_from 4 d, number_from 6 d)
@@ -182,7 +182,7 @@ found_alike id (paper ∷ papers) (row ∷ rows) told = at_id (eqb id paper.id) 
     by_row e = ap (eqb id) told.0.named ∙ e
 
     at_id : (x : Bool) → eqb id paper.id ≡ x → Alike id (find id papers) (find_row id rows) →
-        Alike id (cond x (some paper) (find id papers)) (cond (eqb id row.id) (Found row) (find_row id rows))
+        Alike id (cond x (some paper) (find id papers)) (cond (eqb id row.id) (Some row) (find_row id rows))
     at_id true e later = rw (by_row e) (known paper row (sym (eqb-true _ _ e)) told.0)
     at_id false e later = rw (by_row e) later
 
@@ -193,7 +193,7 @@ table_alike id = found_alike id table command_rows rows_described
 pub read_counted : ReadCounted
 read_counted id paper found σ = counted (table_alike id) found
   where
-    counted : {o : Option Row} {l : Lookup} → Alike id o l → o ≡ some paper → length (paper.reads σ) ≡ paper.count
+    counted : {o : Option Row} {l : StdOption CommandRow} → Alike id o l → o ≡ some paper → length (paper.reads σ) ≡ paper.count
     counted unknown e = absurd (none-ne-some paper e)
     counted (known paper' row at told) e =
         let same_row : paper' ≡ paper = some-injective paper' paper e in
@@ -247,7 +247,7 @@ module _ (σ : Settings) (fits : StatusFits σ) where
       rw (told.read_available σ, told.named, ← (told.read_as σ), ← (success_good_read (read σ row.register)))
       (if_both Same (master_off σ paper.id) (failed_same NotAvailable 0x04)
       (unless_both Same (eqb (length d) 0) (failed_same WrongLength 0x05)
-      (record { settled = refl; replied = refl; fitting = cond_cases StatusFits (eqb paper.id 0x33) _ _ (λ e. no_flags_fit) (λ e. fits) })))
+      (record { settled = refl; replied = refl; fitting = cond_both (eqb paper.id 0x33) _ _ StatusFits (λ e. no_flags_fit) (λ e. fits) })))
   row_same paper row told false d =
       rw (told.writes, told.write_available σ, told.write_length, told.limited d, ← (told.stored σ d))
       (unless_both Same paper.writable (failed_same InvalidCommand 0x03)
@@ -257,7 +257,7 @@ module _ (σ : Settings) (fits : StatusFits σ) where
       (record { settled = refl; replied = refl; fitting = subst StatusHeld (sym (written_status σ row.register d)) fits })))))
 
   -- a known register or an unknown ID
-  found_same : (k : ℕ) {found : Option Row} {l : Lookup} → Alike (k / 2) found l → (d : List ℕ) → Same (command_found found σ (eqb (k % 2) 1) d) (perform_looked_up l σ k d)
+  found_same : (k : ℕ) {found : Option Row} {l : StdOption CommandRow} → Alike (k / 2) found l → (d : List ℕ) → Same (command_found found σ (eqb (k % 2) 1) d) (perform_looked_up l σ k d)
   unfolding access
   found_same k unknown d = failed_same InvalidCommand 0x03
   found_same k (known paper row at told) d = row_same paper row told (eqb (k % 2) 1) d

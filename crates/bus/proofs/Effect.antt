@@ -3,13 +3,14 @@
 use Prim.Native.Nat.{ℕ, ◌/◌, ◌<◌}
 use native.Mathlib.Omega.{arith}
 use mathlib.Core.Path.{◌≡◌, refl, sym, ◌∙◌}
+use Rattle.std.specs.Prelude.{Option as StdOption, Some, None}
 use mathlib.Core.Bool.{true, false, and-false}
 use mathlib.Core.List.{List, [], ◌∷◌}
 use mathlib.Core.Logic.{◌⊎◌, inl, inr}
 use lib.ListN.{length}
 use lib.Dec.{eqb, ltb}
 use borrow.Author.Tests.{eqb-true, eqb-false, eq-eqb, ne_eqb, le-leb, lt-leb, ltb-true, ltb-false}
-use Rattle.base.proofs.Tests.{cond_cases}
+use Rattle.std.proofs.lemmas.Bool.{cond_both}
 use Rattle.packet.specs.declared.writer.Access.{Access}
 use Rattle.packet.specs.declared.writer.Access.TheVariants.{Write, Read}
 use Rattle.bus.specs.declared.Phase.{Phase}
@@ -20,8 +21,6 @@ use Rattle.bus.specs.declared.command.Ways.TheVariants.{ReadWrite}
 use Rattle.bus.specs.declared.command.ModeRight.TheVariants.{MasterOn}
 use Rattle.bus.specs.declared.command.CommandRow.{CommandRow}
 use Rattle.bus.specs.declared.command.Performed.{Performed}
-use Rattle.bus.specs.declared.command.Lookup.{Lookup}
-use Rattle.bus.specs.declared.command.Lookup.TheVariants.{Found, Unknown}
 use Rattle.settings.specs.declared.settings.Settings.{Settings}
 use Rattle.settings.specs.declared.settings.Flag.{Flag}
 use Rattle.settings.specs.declared.settings.Flag.TheVariants.{Incomplete, NotAvailable, InvalidCommand, OutOfRange, EscapeSeen, WrongLength, BytesIgnored, WrongChecksum}
@@ -70,22 +69,22 @@ module _ (σ : Settings) (k : ℕ) (d : List ℕ) where
 
   execute_outcome : (row : CommandRow) (way : Access) → Requested σ k d row way → Comes (execute σ row way d)
   unfolding write_register
-  execute_outcome row Write passed = cond_cases Comes (accepts row.register d) _ _ (λ e. was_written passed e) (λ e. out_of_range passed e)
+  execute_outcome row Write passed = cond_both (accepts row.register d) _ _ Comes (λ e. was_written passed e) (λ e. out_of_range passed e)
   execute_outcome row Read passed = was_read passed
 
   found_outcome : (row : CommandRow) (way : Access) → Known k row way → Comes (perform_found σ row way d)
   unfolding perform_found perform_offered
   found_outcome row way known =
-      cond_cases Comes (offers row way) _ _
-      (λ o. cond_cases Comes (locked σ row way) _ _ (λ l. not_available known o l)
+      cond_both (offers row way) _ _ Comes
+      (λ o. cond_both (locked σ row way) _ _ Comes (λ l. not_available known o l)
       (λ l. let available : Available σ k row way = record { known = known; offered = o; unlocked = l } in
-      cond_cases Comes (eqb (length d) (request_length row way)) _ _ (λ e. execute_outcome row way (record { available = available; whole = eqb-true _ _ e }))
+      cond_both (eqb (length d) (request_length row way)) _ _ Comes (λ e. execute_outcome row way (record { available = available; whole = eqb-true _ _ e }))
       (λ e. wrong_length available (eqb-false _ _ e))))
       (λ o. no_such_way known o)
 
-  looked_up_outcome : (l : Lookup) → lookup (k / 2) ≡ l → Comes (perform_looked_up l σ k d)
-  looked_up_outcome (Found row) e = found_outcome row (access k) (record { found = e; asked = refl })
-  looked_up_outcome Unknown e = unknown_id e
+  looked_up_outcome : (l : StdOption CommandRow) → lookup (k / 2) ≡ l → Comes (perform_looked_up l σ k d)
+  looked_up_outcome (Some row) e = found_outcome row (access k) (record { found = e; asked = refl })
+  looked_up_outcome None e = unknown_id e
 
 pub perform_outcome : PerformOutcome
 perform_outcome σ k d = looked_up_outcome σ k d (lookup (k / 2)) refl
@@ -133,7 +132,7 @@ command_keeps P σ k d same none_set flag_set register_written = by_cases (perfo
     by_cases (wrong_length _ _) = flag_set WrongLength
     by_cases (out_of_range _ _) = flag_set OutOfRange
     by_cases (was_written {row} passed fits) = register_written row passed fits
-    by_cases (was_read {row} _) = cond_cases P (eqb row.id 0x33) _ _ (λ _. none_set) (λ _. same)
+    by_cases (was_read {row} _) = cond_both (eqb row.id 0x33) _ _ P (λ _. none_set) (λ _. same)
 
 -- ---- one exchange
 
@@ -146,12 +145,12 @@ module _ (c : Controller) (b : ℕ) where
 
   start_effect : b ≡ 0xA5 → Leaves (start c)
   unfolding start
-  start_effect e = cond_cases Leaves (is_idle c.phase) _ _ (starts_packet e) (cuts_packet e)
+  start_effect e = cond_both (is_idle c.phase) _ _ Leaves (starts_packet e) (cuts_packet e)
 
   judge_effect : (v : ℕ) → OfPacket c b → c.phase ≡ Checksum → value c b ≡ v → Leaves (judge c v)
   unfolding judge
   judge_effect v here at is =
-      cond_cases Leaves (eqb v c.packet.sum) _ _ (λ f. packet_performed here at (is ∙ eqb-true _ _ f))
+      cond_both (eqb v c.packet.sum) _ _ Leaves (λ f. packet_performed here at (is ∙ eqb-true _ _ f))
       (λ f. wrong_checksum here at (λ q. eqb-false _ _ f (sym is ∙ q)))
 
   feed_effect : (p : Phase) (v : ℕ) → OfPacket c b → c.phase ≡ p → value c b ≡ v → Leaves (feed_at p c v)
@@ -165,21 +164,21 @@ module _ (c : Controller) (b : ℕ) where
   inside_effect : Taken c b → is_idle c.phase ≡ false → Leaves (inside c b)
   unfolding inside
   inside_effect taken inside =
-      cond_cases Leaves c.escape _ _
+      cond_both c.escape _ _ Leaves
       (λ e. feed_effect c.phase _ (record { taken = taken; inside = inside; no_escape = λ q _. apart cc }) refl (rw e))
-      (λ e. cond_cases Leaves (eqb b 0x5A) _ _ (λ f. opens_escape taken inside e (eqb-true _ _ f))
+      (λ e. cond_both (eqb b 0x5A) _ _ Leaves (λ f. opens_escape taken inside e (eqb-true _ _ f))
       (λ f. feed_effect c.phase b (record { taken = taken; inside = inside; no_escape = λ _. eqb-false _ _ f }) refl (rw e)))
 
 pub effect_only : EffectOnly
 unfolding after outside
 effect_only c b =
     let L = Leaves c b in
-    cond_cases L (eqb b 0xA5) _ _ (λ e. start_effect c b (eqb-true _ _ e))
+    cond_both (eqb b 0xA5) _ _ L (λ e. start_effect c b (eqb-true _ _ e))
     (λ e. let no_start = eqb-false b 0xA5 e in
-    cond_cases L (ltb c.reply.sent c.reply.len) _ _ (λ f. dummy no_start (ltb-true _ _ f))
+    cond_both (ltb c.reply.sent c.reply.len) _ _ L (λ f. dummy no_start (ltb-true _ _ f))
     (λ f. let taken : Taken c b = record { no_start = no_start; all_sent = ltb-false _ _ f } in
-    cond_cases L (is_idle c.phase) _ _
-    (λ g. cond_cases L (eqb b 0x00) _ _ (λ h. zero_outside taken g (eqb-true _ _ h)) (λ h. ignored taken g (eqb-false _ _ h)))
+    cond_both (is_idle c.phase) _ _ L
+    (λ g. cond_both (eqb b 0x00) _ _ L (λ h. zero_outside taken g (eqb-true _ _ h)) (λ h. ignored taken g (eqb-false _ _ h)))
     (λ g. inside_effect c b taken g)))
 
 -- what flags and every command keep, an exchange keeps

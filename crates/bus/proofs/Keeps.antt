@@ -6,7 +6,7 @@ use mathlib.Core.List.{List}
 use lib.ListN.{drop}
 use lib.IntN.{nat_abs}
 use borrow.Author.Tests.{leb-true}
-use Rattle.base.proofs.Tests.{cond_cases}
+use Rattle.std.proofs.lemmas.Bool.{cond_both}
 use Rattle.bus.specs.declared.command.Register.{Register}
 use Rattle.bus.specs.declared.command.Register.TheVariants.{
   Backlight,
@@ -81,4 +81,4 @@ pub perform_held : PerformHeld
 perform_held σ k d bytes h = command_keeps Held σ k d h (cleared_held σ h) (λ flag. flagged_held σ flag h) (λ row _ fits. written_held σ row.register d fits bytes h)
 
 pub noted_held : (σ : Settings) (bytes : List ℕ) → Held σ → Held (noted σ bytes)
-noted_held σ bytes h = cond_cases Held (has_escape bytes) _ _ (λ e. flagged_held σ EscapeSeen h) (λ e. h)
+noted_held σ bytes h = cond_both (has_escape bytes) _ _ Held (λ e. flagged_held σ EscapeSeen h) (λ e. h)

@@ -9,7 +9,7 @@ use lib.Seq.{take-append-le, take-append-add}
 use lib.Dec.{eqb, ltb, eqb-suc-zero}
 use borrow.Author.Tests.{ltb-true, ltb-false}
 use Rattle.packet.specs.Packet.{command_byte, checksum, escape_byte, escape, packet_of, packet}
-use Rattle.packet.proofs.PacketLaws.{escape_append}
+use Rattle.std.proofs.lemmas.List.Concat.{flat_map-append}
 use Rattle.bus.specs.declared.Phase.{Phase}
 use Rattle.bus.specs.declared.Phase.TheVariants.{Command, Length}
 use Rattle.bus.specs.declared.Collected.{Collected}
@@ -63,7 +63,6 @@ in_byte v P none opened = by_cases (eqb v 0xA5) (eqb v 0x5A)
 -- a proper beginning of an escaped list is whole bytes, or whole bytes and an escape
 in_escape : (vs : List ℕ) (P : List ℕ → Type 0) → ((j : ℕ) → j < length vs → P (escape (take j vs))) →
     ((j : ℕ) → j < length vs → P (escape (take j vs) ++ 0x5A ∷ [])) → (i : ℕ) → i < length (escape vs) → P (take i (escape vs))
-unfolding escape
 in_escape [] P whole opened i h = absurd (omega arith)
 in_escape (v ∷ vs) P whole opened i h =
     in_append (escape_byte v) (escape vs) P (in_byte v P (whole 0 (omega arith)) (opened 0 (omega arith)))
@@ -81,7 +80,7 @@ record Unfinished (σ : Settings) (c : Controller) (bytes : List ℕ) : Type 0 w
 -- so it is after any of a packet's fields but the last
 unfinished : (σ : Settings) (held : Collected) (k : ℕ) (d : List ℕ) (sum j : ℕ) → j < length (k ∷ length d ∷ d ++ sum ∷ []) →
     Unfinished σ (reading σ Command held) (escape (take j (k ∷ length d ∷ d ++ sum ∷ [])))
-unfolding run escape has_escape feed_at
+unfolding run has_escape feed_at
 unfinished σ held k d sum zero h = record { phase = Command; busy = refl; held = held; is_reading = refl }
 unfinished σ held k d sum (suc zero) h = rw append-nil (record { phase = Length; busy = refl; held = _; is_reading = byte_in σ Command held refl k })
 unfinished σ held k d sum (suc (suc j)) h =
@@ -112,8 +111,7 @@ noted_inside σ held k d sum =
 -- ---- the theorems
 
 packet_escaped : (k : ℕ) (d : List ℕ) → packet_of k d ≡ 0xA5 ∷ escape (k ∷ length d ∷ d ++ checksum (k ∷ length d ∷ d) ∷ [])
-unfolding escape
-packet_escaped k d = packet_is k d ∙ simp (escape_append, append_assoc, append-nil)
+packet_escaped k d = packet_is k d ∙ simp (flat_map-append, append_assoc, append-nil)
 
 pub nothing_before : NothingBefore
 unfolding run has_escape

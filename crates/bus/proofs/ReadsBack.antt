@@ -152,7 +152,7 @@ data_fed left c v more = rw (ne_eqb left 0 (omega arith), after_data_is left mor
 data_in : (vs : List ℕ) (left m i : ℕ) (xs : List ℕ) (σ : Settings) (k n : ℕ) (body : List ℕ) → left ≡ length vs + m → n ≡ i + left →
     run (reading σ (after_length left) (holding k n (checksum xs) body)) (escape vs) ≡
     reading (noted σ (escape vs)) (after_length m) (holding k n (checksum (xs ++ vs)) (sets body i vs))
-unfolding run escape has_escape
+unfolding run has_escape
 data_in [] left m i xs σ k n body e f = let same : left ≡ m = omega arith in rw (same, append-nil)
 data_in (v ∷ vs) left m i xs σ k n body e f =
     let τ = noted σ (escape_byte v) in
@@ -171,7 +171,7 @@ sum_of_two k n = omega arith
 pub fields_in : (σ : Settings) (held : Collected) (k : ℕ) (vs : List ℕ) (n m : ℕ) → n ≡ length vs + m →
     run (reading σ Command held) (escape (k ∷ n ∷ vs)) ≡
     reading (noted σ (escape (k ∷ n ∷ vs))) (after_length m) (holding k n (checksum (k ∷ n ∷ vs)) (sets held.body 0 vs))
-unfolding escape feed_at
+unfolding feed_at
 fields_in σ held k vs n m e =
     let τ = noted σ (escape_byte k) in
     next_in σ Command held refl k (escape_byte n ++ escape vs)
@@ -182,7 +182,7 @@ fields_in σ held k vs n m e =
 
 -- a packet is its start, its fields escaped, and its checksum escaped
 pub packet_is : (k : ℕ) (d : List ℕ) → packet_of k d ≡ 0xA5 ∷ (escape (k ∷ length d ∷ d) ++ escape_byte (checksum (k ∷ length d ∷ d)))
-unfolding packet_of fields escape
+unfolding packet_of fields
 packet_is k d = simp append_assoc
 
 -- a start opens a packet in every state

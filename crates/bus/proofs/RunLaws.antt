@@ -3,7 +3,7 @@ use Prim.Native.Nat.{ℕ, ◌+◌, ◌<◌}
 use mathlib.Core.Path.{◌≡◌, refl, ap}
 use mathlib.Core.List.{List, [], ◌∷◌, ◌++◌}
 use lib.ListN.{length, take, get_or}
-use Rattle.base.proofs.Lists.{take_more}
+use Rattle.std.proofs.lemmas.List.{take_more}
 use Rattle.bus.specs.declared.Controller.{Controller}
 use Rattle.bus.specs.Bus.{exchange}
 use Rattle.bus.specs.Run.{run, outs}
@@ -21,4 +21,4 @@ outs_append (x ∷ xs) ys c = ap (λ (l : List ℕ). (exchange c x).out ∷ l) (
 -- one more byte, for a loop over a list
 pub run_more : (c : Controller) (l : List ℕ) (i : ℕ) → i < length l → run c (take (i + 1) l) ≡ (exchange (run c (take i l)) (get_or l i 0)).controller
 unfolding run
-run_more c l i h = rw (take_more l i h, run_append (take i l) (get_or l i 0 ∷ []) c)
+run_more c l i h = rw (take_more l i 0 h, run_append (take i l) (get_or l i 0 ∷ []) c)

@@ -1,6 +1,7 @@
 -- A command's packet and then zeros, for its reply to go out, leave the controller ready for the next, with the command done.
 use Prim.Native.Nat.{ℕ, zero, suc, ◌+◌, ◌/◌, ◌≤◌, ◌<◌}
 use mathlib.Core.Path.{◌≡◌, refl, ap, ◌∙◌}
+use Rattle.std.specs.Prelude.{Option as StdOption, Some, None}
 use mathlib.Core.Bool.{Bool, true, false, cond}
 use mathlib.Core.List.{List, [], ◌∷◌, ◌++◌}
 use native.Mathlib.Omega.{arith}
@@ -16,8 +17,6 @@ use Rattle.packet.specs.declared.writer.Access.TheVariants.{Write, Read}
 use Rattle.bus.specs.declared.Phase.TheVariants.{Idle}
 use Rattle.bus.specs.declared.Controller.{Controller}
 use Rattle.bus.specs.declared.command.CommandRow.{CommandRow}
-use Rattle.bus.specs.declared.command.Lookup.{Lookup}
-use Rattle.bus.specs.declared.command.Lookup.TheVariants.{Found, Unknown}
 use Rattle.bus.specs.declared.command.Performed.{Performed}
 use Rattle.bus.specs.declared.command.Register.{Register}
 use Rattle.bus.specs.declared.command.Register.TheVariants.{
@@ -106,10 +105,10 @@ execute_replying σ row Read d =
     let bytes = read σ row.register in
     record { bytes = success bytes; short = omega (arith, success_length bytes, read_short σ row.register); is_reply = refl }
 
-looked_up_replying : (l : Lookup) (σ : Settings) (k : ℕ) (d : List ℕ) → Replying (perform_looked_up l σ k d)
+looked_up_replying : (l : StdOption CommandRow) (σ : Settings) (k : ℕ) (d : List ℕ) → Replying (perform_looked_up l σ k d)
 unfolding perform_found perform_offered
-looked_up_replying Unknown σ k d = one_byte 0x03
-looked_up_replying (Found row) σ k d =
+looked_up_replying None σ k d = one_byte 0x03
+looked_up_replying (Some row) σ k d =
     let way = access_of k in
     either (offers row way)
     (either (locked σ row way) (one_byte 0x04) (either (eqb (length d) (request_length row way)) (execute_replying σ row way d) (one_byte 0x05)))

@@ -16,7 +16,7 @@ use Rattle.settings.specs.declared.settings.Flag.TheVariants.{
   BytesIgnored,
   WrongChecksum,
 }
-use Rattle.settings.specs.Settings.{set_bit, in_first, in_second, in_fourth, with_status, flagged}
+use Rattle.settings.specs.Settings.{set_bit, in_first, in_second, in_fourth, flagged}
 use Rattle.bus.specs.AsWritten as written
 use Rattle.bus.specs.CommandTheorems.{StatusFits}
 use Rattle.base.proofs.Tests.{all_below, below_each}
@@ -68,13 +68,13 @@ marked BytesIgnored σ = written.bytes_ignored σ
 marked WrongChecksum σ = written.wrong_checksum σ
 
 module _ (σ : Settings) (fits : StatusFits σ) where
-  first_alike : (bit : ℕ) → bit < 8 → (with_status σ (in_first σ.status (2 ^ bit)) ≡ written.in_first bit σ) × StatusFits (written.in_first bit σ)
+  first_alike : (bit : ℕ) → bit < 8 → (record σ { status = in_first σ.status (2 ^ bit) } ≡ written.in_first bit σ) × StatusFits (written.in_first bit σ)
   first_alike bit h = (rw (set_alike bit σ.status.first h fits.first), omega (arith, set_fits bit σ.status.first h fits.first))
 
-  second_alike : (bit : ℕ) → bit < 8 → (with_status σ (in_second σ.status (2 ^ bit)) ≡ written.in_second bit σ) × StatusFits (written.in_second bit σ)
+  second_alike : (bit : ℕ) → bit < 8 → (record σ { status = in_second σ.status (2 ^ bit) } ≡ written.in_second bit σ) × StatusFits (written.in_second bit σ)
   second_alike bit h = (rw (set_alike bit σ.status.second h fits.second), omega (arith, set_fits bit σ.status.second h fits.second))
 
-  fourth_alike : (bit : ℕ) → bit < 8 → (with_status σ (in_fourth σ.status (2 ^ bit)) ≡ written.in_fourth bit σ) × StatusFits (written.in_fourth bit σ)
+  fourth_alike : (bit : ℕ) → bit < 8 → (record σ { status = in_fourth σ.status (2 ^ bit) } ≡ written.in_fourth bit σ) × StatusFits (written.in_fourth bit σ)
   fourth_alike bit h = (rw (set_alike bit σ.status.fourth h fits.fourth), omega (arith, set_fits bit σ.status.fourth h fits.fourth))
 
   -- every flag sets the bit that the paper gives it, and the status bytes stay bytes

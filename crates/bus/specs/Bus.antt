@@ -34,13 +34,13 @@ abbrev pub none : Collected
 none = record { command = 0; count = 0; sum = 0; body = replicate data_most 0 }
 
 abbrev pub with_command : Collected → ℕ → Collected
-with_command p v = record { command = v; count = 0; sum = v; body = p.body }
+with_command p v = record p { command = v; count = 0; sum = v }
 
 abbrev pub with_length : Collected → ℕ → Collected
-with_length p v = record { command = p.command; count = v; sum = add p.sum v; body = p.body }
+with_length p v = record p { count = v; sum = add p.sum v }
 
 abbrev pub with_data : Collected → ℕ → ℕ → Collected
-with_data p left v = record { command = p.command; count = p.count; sum = add p.sum v; body = set p.body (place p.count left) v }
+with_data p left v = record p { sum = add p.sum v; body = set p.body (place p.count left) v }
 
 unfoldable pub after_length : ℕ → Phase
 after_length count = cond (eqb count 0) Checksum (Data count)
@@ -64,20 +64,20 @@ abbrev pub fresh : Controller
 fresh = controller_of Idle false none nothing_unsent settings_spec.fresh
 
 abbrev pub flagged : Controller → Flag → Controller
-flagged c flag = controller_of c.phase c.escape c.packet c.reply (settings_spec.flagged c.settings flag)
+flagged c flag = record c { settings = settings_spec.flagged c.settings flag }
 
 -- a start drops the open packet, a half escape and the rest of a reply
 abbrev pub started : Controller → Controller
-started c = controller_of Command false c.packet nothing_unsent c.settings
+started c = record c { phase = Command; escape = false; reply = nothing_unsent }
 
 unfoldable pub start : Controller → Controller
 start c = cond (is_idle c.phase) (started c) (started (flagged c Incomplete))
 
 abbrev pub at : Controller → Phase → Collected → Controller
-at c phase packet = controller_of phase false packet c.reply c.settings
+at c phase packet = record c { phase = phase; escape = false; packet = packet }
 
 abbrev pub ended : Controller → Settings → ReplyBytes → Controller
-ended c σ reply = controller_of Idle false c.packet (waiting reply) σ
+ended c σ reply = record c { phase = Idle; escape = false; reply = waiting reply; settings = σ }
 
 -- the whole packet as a command
 abbrev pub performed : Collected → Settings → Performed
@@ -101,7 +101,7 @@ abbrev pub feed : Controller → ℕ → Controller
 feed c v = feed_at c.phase c v
 
 abbrev pub escape_open : Controller → Controller
-escape_open c = controller_of c.phase true c.packet c.reply (settings_spec.flagged c.settings EscapeSeen)
+escape_open c = record c { escape = true; settings = settings_spec.flagged c.settings EscapeSeen }
 
 unfoldable pub inside : Controller → ℕ → Controller
 inside c byte =
@@ -112,10 +112,10 @@ unfoldable pub outside : Controller → ℕ → Controller
 outside c byte = cond (eqb byte 0x00) c (flagged c BytesIgnored)
 
 abbrev pub sent_one : Outgoing → Outgoing
-sent_one r = record { bytes = r.bytes; len = r.len; sent = r.sent + 1 }
+sent_one r = record r { sent = r.sent + 1 }
 
 abbrev pub one_sent : Controller → Controller
-one_sent c = controller_of c.phase c.escape c.packet (sent_one c.reply) c.settings
+one_sent c = record c { reply = sent_one c.reply }
 
 -- while a reply is unsent, all but a start is a dummy
 unfoldable pub after : Controller → ℕ → Controller

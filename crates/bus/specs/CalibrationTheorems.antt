@@ -1,11 +1,10 @@
 -- What is proved of the calibration registers, 64h to 69h: document 02, Ask 6.
-use Rattle.std.specs.Prelude.{ℕ, ◌/◌, ◌≤◌, ◌<◌, ◌≡◌, List, [], ◌∷◌, ◌⊎◌}
+use Rattle.std.specs.Prelude.{ℕ, ◌/◌, ◌≤◌, ◌<◌, ◌≡◌, List, [], ◌∷◌, ◌⊎◌, Some}
 use Rattle.packet.specs.declared.writer.Access.TheVariants.{Write, Read}
 use Rattle.settings.specs.declared.settings.Settings.{Settings}
 use Rattle.settings.specs.declared.settings.Flag.TheVariants.{NotAvailable}
-use Rattle.settings.specs.Settings.{cleared, with_mode}
+use Rattle.settings.specs.Settings.{cleared}
 use Rattle.bus.specs.declared.command.CommandRow.{CommandRow}
-use Rattle.bus.specs.declared.command.Lookup.TheVariants.{Found}
 use Rattle.bus.specs.declared.command.Register.TheVariants.{CalibrationMode}
 use Rattle.bus.specs.Commands.{lookup, access, failed, read_register, perform}
 use Rattle.bus.specs.CommandTheorems.{write_performed}
@@ -41,7 +40,7 @@ ModeWritten =
 -- nor is any read
 abbrev pub ReadInEitherMode : Type 0
 ReadInEitherMode =
-    (σ : Settings) (k : ℕ) (row : CommandRow) → lookup (k / 2) ≡ Found row → access k ≡ Read → (MasterOff σ → ⊥) →
+    (σ : Settings) (k : ℕ) (row : CommandRow) → lookup (k / 2) ≡ Some row → access k ≡ Read → (MasterOff σ → ⊥) →
     perform σ k [] ≡ read_register σ row.id row.register
 
 -- a command of another ID, master's too, keeps the mode, the levels and the gain
@@ -55,4 +54,4 @@ abbrev pub LevelsKept : Type 0
 LevelsKept =
     (σ : Settings) (k : ℕ) (d : List ℕ) → k / 2 ≡ 0x64 →
     let after = (perform σ k d).settings.calibration in
-    after ≡ with_mode σ.calibration after.mode
+    after ≡ record σ.calibration { mode = after.mode }

@@ -1,5 +1,5 @@
 -- What is proved of a command that is performed.
-use Rattle.std.specs.Prelude.{ℕ, ◌/◌, ◌%◌, ◌≤◌, ◌<◌, ◌≡◌, true, false, ◌||◌, List, [], ◌∷◌, ◌⊎◌, length, eqb}
+use Rattle.std.specs.Prelude.{ℕ, ◌/◌, ◌%◌, ◌≤◌, ◌<◌, ◌≡◌, true, false, ◌||◌, List, [], ◌∷◌, ◌⊎◌, length, eqb, Option as StdOption, Some, None}
 use Rattle.std.proofs.Math.Option.{Option, none, some}
 use Rattle.base.specs.Bytes.{Bytes}
 use Rattle.packet.specs.declared.writer.Access.{Access}
@@ -10,8 +10,6 @@ use Rattle.settings.specs.Range.{StatusHeld, Held}
 use Rattle.bus.specs.declared.command.Register.{Register}
 use Rattle.bus.specs.declared.command.Register.TheVariants.{Bezel}
 use Rattle.bus.specs.declared.command.CommandRow.{CommandRow}
-use Rattle.bus.specs.declared.command.Lookup.{Lookup}
-use Rattle.bus.specs.declared.command.Lookup.TheVariants.{Found, Unknown}
 use Rattle.bus.specs.declared.command.Performed.{Performed}
 use Rattle.bus.specs.Commands.{lookup, access, offers, request_length, accepts, read, written, reply_of, failed, read_register, locked, perform}
 use Rattle.bus.specs.AsWritten.{Row, table, find, master_off, out_of_mode, command_found}
@@ -34,9 +32,9 @@ pub record Described (paper : Row) (row : CommandRow) : Type 0 where
   pub counted : (σ : Settings) → length (read σ row.register) ≡ row.count
 
 -- no row in either, or the rows with this ID
-pub data Alike (id : ℕ) : Option Row → Lookup → Type 0 where
-  unknown : Alike id none Unknown
-  known : (paper : Row) (row : CommandRow) → paper.id ≡ id → Described paper row → Alike id (some paper) (Found row)
+pub data Alike (id : ℕ) : Option Row → StdOption CommandRow → Type 0 where
+  unknown : Alike id none None
+  known : (paper : Row) (row : CommandRow) → paper.id ≡ id → Described paper row → Alike id (some paper) (Some row)
 
 -- at every ID both tables have no row, or one that says the same
 abbrev pub TableAlike : Type 0
@@ -61,7 +59,7 @@ PerformedAlike =
 
 -- the ID of the command byte k has a row, and it asks for this way of access
 pub record Known (k : ℕ) (row : CommandRow) (way : Access) : Type 0 where
-  pub found : lookup (k / 2) ≡ Found row
+  pub found : lookup (k / 2) ≡ Some row
   pub asked : access k ≡ way
 
 -- the way is offered, and neither master nor the calibration mode locks the register: 01's checks 2 and 3 are passed
@@ -81,7 +79,7 @@ write_performed σ r d = record { settings = written σ r d; reply = reply_of (0
 -- what becomes of the command byte k with data d: each failure where its own check is the first that is not passed,
 -- and an effect where every check is passed
 pub data CommandEffect (σ : Settings) (k : ℕ) (d : List ℕ) : Performed → Type 0 where
-  unknown_id : lookup (k / 2) ≡ Unknown → CommandEffect σ k d (failed σ InvalidCommand 0x03)
+  unknown_id : lookup (k / 2) ≡ None → CommandEffect σ k d (failed σ InvalidCommand 0x03)
   no_such_way : {row : CommandRow} {way : Access} → Known k row way → offers row way ≡ false → CommandEffect σ k d (failed σ InvalidCommand 0x03)
   not_available : {row : CommandRow} {way : Access} → Known k row way → offers row way ≡ true → locked σ row way ≡ true → CommandEffect σ k d (failed σ NotAvailable 0x04)
   wrong_length : {row : CommandRow} {way : Access} → Available σ k row way → (length d ≡ request_length row way → ⊥) → CommandEffect σ k d (failed σ WrongLength 0x05)

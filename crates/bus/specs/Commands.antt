@@ -1,5 +1,5 @@
 -- The registers and their commands: document 01, "The registers and their commands"; document 02, Ask 6.
-use Rattle.std.specs.Prelude.{ℕ, ◌/◌, ◌%◌, ℤ, Bool, true, false, cond, ◌&&◌, ◌||◌, List, [], ◌∷◌, ◌++◌, length, get_or, drop, replicate, eqb, leb}
+use Rattle.std.specs.Prelude.{ℕ, ◌/◌, ◌%◌, ℤ, Bool, true, false, cond, ◌&&◌, ◌||◌, List, [], ◌∷◌, ◌++◌, length, get_or, drop, replicate, eqb, leb, Option, Some, None}
 use Rattle.number.specs.Number.{le16, le16_bytes}
 use Rattle.number.specs.Signed.{offset, magnitude, sign}
 use Rattle.packet.specs.declared.writer.Access.{Access}
@@ -29,8 +29,6 @@ use Rattle.bus.specs.declared.command.Ways.TheVariants.{ReadWrite, ReadOnly}
 use Rattle.bus.specs.declared.command.ModeRight.{ModeRight}
 use Rattle.bus.specs.declared.command.ModeRight.TheVariants.{Always, MasterOn, CalibrationOnly}
 use Rattle.bus.specs.declared.command.CommandRow.{CommandRow}
-use Rattle.bus.specs.declared.command.Lookup.{Lookup}
-use Rattle.bus.specs.declared.command.Lookup.TheVariants.{Found, Unknown}
 use Rattle.bus.specs.declared.command.ReplyBytes.{ReplyBytes}
 use Rattle.bus.specs.declared.command.Performed.{Performed}
 use Rattle.settings.specs.declared.settings.Settings.{Settings}
@@ -42,26 +40,7 @@ use Rattle.settings.specs.declared.settings.Calibration.{Calibration}
 use Rattle.settings.specs.declared.settings.StatusBytes.{StatusBytes}
 use Rattle.settings.specs.declared.settings.Flag.{Flag}
 use Rattle.settings.specs.declared.settings.Flag.TheVariants.{NotAvailable, InvalidCommand, OutOfRange, WrongLength}
-use Rattle.settings.specs.Settings.{
-  with_backlight,
-  with_switches,
-  with_heater,
-  with_bezel,
-  with_pixels,
-  with_calibration,
-  with_master,
-  with_park,
-  with_splash,
-  with_strength,
-  with_mode,
-  with_red,
-  with_green,
-  with_blue,
-  with_limit,
-  with_gain,
-  flagged,
-  cleared,
-}
+use Rattle.settings.specs.Settings.{flagged, cleared}
 use Rattle.settings.specs.Range.{switch_limit, strength_limit, duty_limit, sign_limit, gain_limit}
 
 -- ---- the command table
@@ -89,14 +68,14 @@ command_rows =
     ∷ command_row 0x69 SensorGain ReadWrite 1 CalibrationOnly
     ∷ []
 
-abbrev pub find_row : ℕ → List CommandRow → Lookup
-find_row id [] = Unknown
-find_row id (row ∷ rows) = cond (eqb id row.id) (Found row) (find_row id rows)
+abbrev pub find_row : ℕ → List CommandRow → Option CommandRow
+find_row id [] = None
+find_row id (row ∷ rows) = cond (eqb id row.id) (Some row) (find_row id rows)
 
 -- ---- what a command byte asks for
 
 -- the row with this ID
-unfoldable pub lookup : ℕ → Lookup
+unfoldable pub lookup : ℕ → Option CommandRow
 lookup id = find_row id command_rows
 
 unfoldable pub access : ℕ → Access
@@ -229,21 +208,21 @@ abbrev pub status_from : List ℕ → StatusBytes
 status_from d = record { first = get_or d 0 0; second = get_or d 1 0; third = get_or d 2 0; fourth = get_or d 3 0 }
 
 abbrev pub written : Settings → Register → List ℕ → Settings
-written σ Backlight d = with_backlight σ (le16 d)
-written σ Master d = with_switches σ (with_master σ.switches (get_or d 0 0))
-written σ Park d = with_switches σ (with_park σ.switches (get_or d 0 0))
-written σ Splash d = with_switches σ (with_splash σ.switches (get_or d 0 0))
-written σ Strength d = with_switches σ (with_strength σ.switches (get_or d 0 0))
-written σ Heater d = with_heater σ (heater_from d)
-written σ Bezel d = with_bezel σ (bezel_from d)
+written σ Backlight d = record σ { backlight = le16 d }
+written σ Master d = record σ { switches = record σ.switches { master = get_or d 0 0 } }
+written σ Park d = record σ { switches = record σ.switches { park = get_or d 0 0 } }
+written σ Splash d = record σ { switches = record σ.switches { splash = get_or d 0 0 } }
+written σ Strength d = record σ { switches = record σ.switches { strength = get_or d 0 0 } }
+written σ Heater d = record σ { heater = heater_from d }
+written σ Bezel d = record σ { bezel = bezel_from d }
 written σ Status d = σ
-written σ Pixels d = with_pixels σ (area_from d)
-written σ CalibrationMode d = with_calibration σ (with_mode σ.calibration (get_or d 0 0))
-written σ RedLevel d = with_calibration σ (with_red σ.calibration (le16 d))
-written σ GreenLevel d = with_calibration σ (with_green σ.calibration (le16 d))
-written σ BlueLevel d = with_calibration σ (with_blue σ.calibration (le16 d))
-written σ CurrentLimit d = with_calibration σ (with_limit σ.calibration (le16 d))
-written σ SensorGain d = with_calibration σ (with_gain σ.calibration (get_or d 0 0))
+written σ Pixels d = record σ { pixels = area_from d }
+written σ CalibrationMode d = record σ { calibration = record σ.calibration { mode = get_or d 0 0 } }
+written σ RedLevel d = record σ { calibration = record σ.calibration { red = le16 d } }
+written σ GreenLevel d = record σ { calibration = record σ.calibration { green = le16 d } }
+written σ BlueLevel d = record σ { calibration = record σ.calibration { blue = le16 d } }
+written σ CurrentLimit d = record σ { calibration = record σ.calibration { limit = le16 d } }
+written σ SensorGain d = record σ { calibration = record σ.calibration { gain = get_or d 0 0 } }
 
 -- ---- a command's effect and reply
 
@@ -283,9 +262,9 @@ perform_offered σ row way d =
 unfoldable pub perform_found : Settings → CommandRow → Access → List ℕ → Performed
 perform_found σ row way d = cond (offers row way) (perform_offered σ row way d) (failed σ InvalidCommand 0x03)
 
-abbrev pub perform_looked_up : Lookup → Settings → ℕ → List ℕ → Performed
-perform_looked_up (Found row) σ command d = perform_found σ row (access command) d
-perform_looked_up Unknown σ command d = failed σ InvalidCommand 0x03
+abbrev pub perform_looked_up : Option CommandRow → Settings → ℕ → List ℕ → Performed
+perform_looked_up (Some row) σ command d = perform_found σ row (access command) d
+perform_looked_up None σ command d = failed σ InvalidCommand 0x03
 
 -- the checks after the checksum, and the command's effect and reply
 abbrev pub perform : Settings → ℕ → List ℕ → Performed

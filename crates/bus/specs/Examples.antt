@@ -6,7 +6,7 @@ use Rattle.settings.specs.declared.settings.HeaterDrive.{HeaterDrive}
 use Rattle.settings.specs.declared.settings.Offsets.{Offsets}
 use Rattle.settings.specs.declared.settings.Area.{Area}
 use Rattle.settings.specs.declared.settings.StatusBytes.{StatusBytes}
-use Rattle.settings.specs.Settings.{with_backlight, with_switches, with_strength, with_bezel, with_status, fresh as fresh_settings}
+use Rattle.settings.specs.Settings.{fresh as fresh_settings}
 use Rattle.bus.specs.Bus.{fresh}
 use Rattle.bus.specs.Run.{run, outs}
 use Rattle.bus.specs.AsWritten.{begin, steps, sent}
@@ -37,13 +37,13 @@ abbrev pub bits : ℕ → ℕ → ℕ → ℕ → StatusBytes
 bits first second third fourth = record { first = first; second = second; third = third; fourth = fourth }
 
 abbrev pub at_level : ℕ → StatusBytes → Settings
-at_level backlight status = with_status (with_backlight fresh_settings backlight) status
+at_level backlight status = record fresh_settings { backlight = backlight; status = status }
 
 abbrev pub at_strength : ℕ → StatusBytes → Settings
-at_strength strength status = with_status (with_switches fresh_settings (with_strength fresh_settings.switches strength)) status
+at_strength strength status = record fresh_settings { switches = record fresh_settings.switches { strength = strength }; status = status }
 
 abbrev pub at_offsets : ℤ → ℤ → StatusBytes → Settings
-at_offsets horizontal vertical status = with_status (with_bezel fresh_settings (record { horizontal = horizontal; vertical = vertical })) status
+at_offsets horizontal vertical status = record fresh_settings { bezel = record { horizontal = horizontal; vertical = vertical }; status = status }
 
 -- ---- the table
 

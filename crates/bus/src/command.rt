@@ -48,17 +48,10 @@ pub struct CommandRow {
     pub right: ModeRight,
 }
 
-// What an ID stands for.
-#[derive(Clone, Copy)]
-pub enum Lookup {
-    Found(CommandRow),
-    Unknown,
-}
-
 // The longest reply: a response, a length, 8 data bytes and a sum.
 pub const REPLY_LIMIT: usize = 11;
 
-// A reply: the first len of the bytes.
+// A reply: the first len of the bytes, as the bus sends them out of its own array.
 #[derive(Clone, Copy)]
 pub struct ReplyBytes {
     pub bytes: [u8; REPLY_LIMIT],

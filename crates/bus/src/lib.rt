@@ -7,7 +7,7 @@ ghost use Rattle.std.specs.Prelude.{◌≡◌};
 ghost use Rattle.bus.specs.Bus as spec;
 
 pub use command::{
-    CommandRow, Lookup, ModeRight, Performed, REPLY_LIMIT, Register, ReplyBytes, Ways, response,
+    CommandRow, ModeRight, Performed, REPLY_LIMIT, Register, ReplyBytes, Ways, response,
 };
 use settings::Settings;
 
@@ -21,7 +21,7 @@ pub enum Phase {
     Checksum,
 }
 
-// The open packet's fields so far, and the sum of its bytes modulo 256.
+// The open packet's fields so far, and the sum of its bytes modulo 256. Its data stand in an array by value, a form that document 01 asks for.
 #[derive(Clone, Copy)]
 pub struct Collected {
     pub command: u8,
@@ -30,7 +30,7 @@ pub struct Collected {
     pub body: [u8; 255],
 }
 
-// A reply on its way out: its first len bytes, of which sent are out.
+// A reply on its way out: its first len bytes, of which sent are out. An array, since a value with more sent than there are is answered too.
 #[derive(Clone, Copy)]
 pub struct Outgoing {
     pub bytes: [u8; REPLY_LIMIT],
@@ -38,6 +38,7 @@ pub struct Outgoing {
     pub sent: u8,
 }
 
+// An escape byte that waits for its second is told beside the phase, a form that document 01 asks for.
 #[derive(Clone, Copy)]
 pub struct Controller {
     pub phase: Phase,

@@ -5,15 +5,13 @@
 mod argument;
 mod messages;
 
-use argument::Given;
-use base::Written;
 use frame::SessionId;
 use link::FRAME_LIMIT;
 use session::Cab;
 use std::io;
 use std::io::{Read, Stdin, Stdout};
 use stream::WRAPPED_MOST;
-use wrapping::{Event, Received, Receiver};
+use wrapping::{Event, Receiver};
 
 // As many bytes as one read may give.
 const READ_LIMIT: usize = 4096;
@@ -24,119 +22,75 @@ struct Station {
     cab: Cab,
     receiver: Receiver,
     refused: u64,
-    goes_on: bool,
 }
 
-fn started(highest: u32) -> Station {
-    Station {
-        cab: starting::restarted(SessionId(highest)),
-        receiver: Receiver::new(),
-        refused: 0,
-        goes_on: true,
-    }
-}
-
-// A proved loop has to end, and an input need not. So the reads are counted, up to a number that no run uses up.
-fn run(from: Stdin, to: Stdout, highest: u32) -> io::Result<Station> {
-    let mut station = started(highest);
-    for _ in 0..u64::MAX {
-        station = after_read(from, to, station)?;
-        if !station.goes_on {
-            return Ok(station);
+impl Station {
+    fn new(highest: u32) -> Station {
+        Station {
+            cab: starting::restarted(SessionId(highest)),
+            receiver: Receiver::new(),
+            refused: 0,
         }
     }
-    Ok(station)
-}
 
-fn after_read(mut from: Stdin, to: Stdout, mut station: Station) -> io::Result<Station> {
-    let mut input = [0u8; READ_LIMIT];
-    let n = from.read(&mut input)?;
-    if n == 0 {
-        station.goes_on = false;
-        return Ok(station);
-    }
-    taken(to, station, &input[..n])
-}
-
-// All bytes of a read, unless an answer cannot be written.
-fn taken(to: Stdout, start: Station, bytes: &[u8]) -> io::Result<Station> {
-    let mut station = start;
-    let mut at: usize = 0;
-    while at < bytes.len() {
-        let received = stream::receive(station.receiver, number::rest(bytes, at));
-        let next = std::num::wrapping_add_usize(at, received.took);
-        // never so: the test shows that the loop ends
-        if next <= at {
-            return Ok(station);
+    // Until the input ends. A proved loop has to end, and an input need not, so the reads are counted, up to a number that no run uses up.
+    fn run(&mut self, mut from: Stdin, to: Stdout) -> io::Result<()> {
+        let mut input = [0u8; READ_LIMIT];
+        for _ in 0..u64::MAX {
+            let n = from.read(&mut input)?;
+            if n == 0 {
+                break;
+            }
+            self.take(to, &input[..n])?;
         }
-        at = next;
-        station = after_call(to, station.cab, station.refused, received)?;
-        if !station.goes_on {
-            return Ok(station);
+        Ok(())
+    }
+
+    // All bytes of a read.
+    fn take(&mut self, to: Stdout, bytes: &[u8]) -> io::Result<()> {
+        let mut rest = bytes;
+        // a proved loop has to end, so the turns are counted: a call takes one byte at least
+        for _ in 0..bytes.len() {
+            if rest.is_empty() {
+                break;
+            }
+            let received = stream::receive(self.receiver, rest);
+            self.receiver = received.receiver;
+            rest = number::rest(rest, received.took);
+            match received.event {
+                Event::Nothing => {}
+                // a refused length gets no answer
+                Event::Refused(..) => self.refused = self.refused.wrapping_add(1),
+                Event::Frame(len) => self.answer(to, len)?,
+            }
         }
+        Ok(())
     }
-    Ok(station)
-}
 
-// A refused length gets no answer.
-fn after_call(to: Stdout, cab: Cab, refused: u64, received: Received) -> io::Result<Station> {
-    let receiver = received.receiver;
-    let event = received.event;
-    match event {
-        Event::Nothing => Ok(Station {
-            cab,
-            receiver,
-            refused,
-            goes_on: true,
-        }),
-        Event::Refused(_, _) => Ok(Station {
-            cab,
-            receiver,
-            refused: std::num::wrapping_add_u64(refused, 1),
-            goes_on: true,
-        }),
-        Event::Frame(len) => answered(to, cab, receiver, refused, len),
+    // The frame is the first bytes of the receiver's buffer.
+    fn answer(&mut self, to: Stdout, len: usize) -> io::Result<()> {
+        let mut output = [0; FRAME_LIMIT];
+        let frame = text::part(&self.receiver.buffer, 0, len);
+        let done = cabbox::frame_in(self.cab, frame, &mut output);
+        self.cab = done.state;
+        write_wrapped(to, text::part(&output, 0, done.len))
     }
 }
 
-fn answered(
-    to: Stdout,
-    cab: Cab,
-    receiver: Receiver,
-    refused: u64,
-    len: usize,
-) -> io::Result<Station> {
-    let mut output = [0; FRAME_LIMIT];
-    let buffer = receiver.buffer;
-    let done = cabbox::frame_in(cab, text::part(&buffer, 0, len), &mut output);
-    let after = done.cab;
-    let goes_on = write_wrapped(to, text::part(&output, 0, done.len))?;
-    Ok(Station {
-        cab: after,
-        receiver,
-        refused,
-        goes_on,
-    })
-}
-
-// No frame that a box writes is refused.
-fn write_wrapped(to: Stdout, frame: &[u8]) -> io::Result<bool> {
+fn write_wrapped(to: Stdout, frame: &[u8]) -> io::Result<()> {
     let mut field = [0; WRAPPED_MOST];
-    match stream::wrap(frame, &mut field) {
-        Written::Length(len) => {
-            to.write_all(text::part(&field, 0, len))?;
-            Ok(true)
-        }
-        Written::Refused(_) => Ok(false),
-    }
+    // no frame that a box writes is refused
+    let Ok(len) = stream::wrap(frame, &mut field) else {
+        return Err(io::Error::from(io::ErrorKind::InvalidData));
+    };
+    to.write_all(text::part(&field, 0, len))
 }
 
 fn main(rt: HostRuntime) -> io::Result<()> {
-    match argument::highest(&rt) {
-        Given::Highest(highest) => {
-            let end = run(rt.stdin(), rt.stdout(), highest)?;
-            messages::lost(&rt, end.receiver.dropped, end.refused)
-        }
-        Given::Wrong => messages::usage(&rt),
-    }
+    let Some(highest) = argument::highest(&rt) else {
+        return messages::usage(&rt);
+    };
+    let mut station = Station::new(highest);
+    station.run(rt.stdin(), rt.stdout())?;
+    messages::lost(&rt, station.receiver.dropped, station.refused)
 }

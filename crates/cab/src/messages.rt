@@ -9,10 +9,8 @@ pub(crate) fn usage(rt: &impl Eprint) -> io::Result<()> {
 
 // What of the input came to nothing, if anything did.
 pub(crate) fn lost(rt: &impl Eprint, dropped: u32, refused: u64) -> io::Result<()> {
-    if dropped == 0 {
-        if refused == 0 {
-            return Ok(());
-        }
+    if dropped == 0 && refused == 0 {
+        return Ok(());
     }
     eprintln!(rt; "bytes dropped where a frame should begin: {dropped}, lengths refused: {refused}")
 }

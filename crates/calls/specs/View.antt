@@ -4,13 +4,10 @@ use Rattle.std.proofs.Common.{inl, inr}
 use Rattle.std.proofs.Math.Option.{none}
 use Rattle.base.specs.Lent.{overwritten}
 use Rattle.frame.specs.View.{asked_as, refusal_of}
-use Rattle.frame.specs.declared.verdict.Verdict.{Verdict}
-use Rattle.session.specs.declared.Cab.{Cab}
 use Rattle.session.specs.declared.Pair.{Pair}
-use Rattle.session.specs.declared.Office.{Office}
+use Rattle.outcome.specs.declared.Answered.{Answered}
 use Rattle.outcome.specs.Batch.{Outcome, bytes_of_parts, report}
 use Rattle.session.specs.Calls.{BoxCall, restart, box_frame, OfficeCall, open_session, issue, resend, reopen, office_frame}
-use Rattle.calls.specs.declared.Answered.{Answered}
 use Rattle.calls.specs.declared.Call.{Call as CodeCall}
 use Rattle.calls.specs.declared.Call.TheVariants.{Restart, BoxFrame, OpenSession, Issue, Resend, Reopen, OfficeFrame}
 
@@ -24,12 +21,9 @@ call_of (Resend number) bytes room = inr (resend number.0 room)
 call_of Reopen bytes room = inr (reopen room)
 call_of OfficeFrame bytes room = inr (office_frame bytes)
 
--- the outcome of a single call fixes what was returned, and what was made of the lent output: both ends, the refusal's number, the length and every byte
-pub record Runs (t : Outcome Pair) (r : Answered) (before after : List ℕ) : Type 0 where
-  pub state_is : r.ends ≡ t.state
+-- the outcome of a single call fixes what was returned, and what was made of the lent output: both ends, what a refusal tells, the length and every byte
+pub record Runs (t : Outcome Pair) (r : Answered Pair) (before after : List ℕ) : Type 0 where
+  pub state_is : r.state ≡ t.state
   pub whole_is : t.refusal ≡ none
   pub part_is : map report t.parts ≡ record { refusal = refusal_of r.verdict; len = r.len } ∷ []
   pub output_is : after ≡ overwritten (bytes_of_parts t.parts) before
-
-abbrev pub answered : Cab → Office → Verdict → ℕ → Answered
-answered cab office verdict len = record { ends = record { cab = cab; office = office }; verdict = verdict; len = len }

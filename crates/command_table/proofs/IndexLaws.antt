@@ -5,12 +5,12 @@ use native.Mathlib.Omega.{arith}
 use mathlib.Core.Path.{◌≡◌, refl, ◌∙◌}
 use mathlib.Core.Bool.{Bool, true, false, cond}
 use mathlib.Core.List.{List, [], ◌∷◌, map}
+use Rattle.std.specs.Prelude.{Some, None}
 use lib.ListN.{get_or}
 use lib.Dec.{T, eqb, eqb→eq}
 use borrow.Author.Tests.{eq-eqb, ne_eqb}
 use Rattle.base.proofs.Tests.{all_below, below_each}
 use Rattle.bus.specs.declared.command.CommandRow.{CommandRow}
-use Rattle.bus.specs.declared.command.Lookup.TheVariants.{Found, Unknown}
 use Rattle.bus.specs.Commands.{command_rows, find_row, lookup}
 use Rattle.bus.specs.AsWritten.{table}
 use Rattle.bus.proofs.CommandTable.{table_alike}
@@ -37,13 +37,13 @@ entry_get_or other start n [] = refl
 entry_get_or other start zero (x ∷ xs) = rw (eq-eqb (start + 0) start (add-zero start))
 entry_get_or other start (suc n) (x ∷ xs) = rw (ne_eqb (start + suc n) start (λ e. omega arith), add-suc start n, ← (suc-add start n)) (entry_get_or other (suc start) n xs)
 
-by_number : (id : ℕ) (rows : List CommandRow) → get_or (numbered rows) (number_among id (ids rows)) Unknown ≡ find_row id rows
+by_number : (id : ℕ) (rows : List CommandRow) → get_or (numbered rows) (number_among id (ids rows)) None ≡ find_row id rows
 unfolding number_among
 by_number id [] = refl
 by_number id (row ∷ rows) = by_cases (eqb id row.id) (number_among id (ids rows)) (by_number id rows)
   where
-    by_cases : (here : Bool) (later : ℕ) → get_or (numbered rows) later Unknown ≡ find_row id rows →
-        get_or (numbered (row ∷ rows)) (cond here 1 (one_more later)) Unknown ≡ cond here (Found row) (find_row id rows)
+    by_cases : (here : Bool) (later : ℕ) → get_or (numbered rows) later None ≡ find_row id rows →
+        get_or (numbered (row ∷ rows)) (cond here 1 (one_more later)) None ≡ cond here (Some row) (find_row id rows)
     by_cases true later e = refl
     by_cases false zero e = e
     by_cases false (suc n) e = e
@@ -51,7 +51,7 @@ by_number id (row ∷ rows) = by_cases (eqb id row.id) (number_among id (ids row
 -- both tables have their rows in one order
 pub lookup_by_number : (id : ℕ) → row_at (paper_number id) ≡ lookup id
 unfolding lookup table
-lookup_by_number id = rw (← (zero-add (paper_number id))) (entry_get_or Unknown 0 (paper_number id) (numbered command_rows) ∙ by_number id command_rows)
+lookup_by_number id = rw (← (zero-add (paper_number id))) (entry_get_or None 0 (paper_number id) (numbered command_rows) ∙ by_number id command_rows)
 
 pub row_as_written : RowAsWritten
 row_as_written k h = rw (index_as_written k h, lookup_by_number (k / 2)) (table_alike (k / 2))

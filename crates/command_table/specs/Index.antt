@@ -1,8 +1,6 @@
 -- The command table by number: the number of an ID's row, the row of a number, and the index that leads from the ID to the number.
-use Rattle.std.specs.Prelude.{ℕ, zero, suc, ◌-◌, ◌/◌, ◌%◌, ◌*◌, ◌^◌, ◌<◌, ◌≡◌, cond, List, [], ◌∷◌, map, eqb}
+use Rattle.std.specs.Prelude.{ℕ, zero, suc, ◌-◌, ◌/◌, ◌%◌, ◌*◌, ◌^◌, ◌<◌, ◌≡◌, cond, List, [], ◌∷◌, map, eqb, Option, Some, None}
 use Rattle.bus.specs.declared.command.CommandRow.{CommandRow}
-use Rattle.bus.specs.declared.command.Lookup.{Lookup}
-use Rattle.bus.specs.declared.command.Lookup.TheVariants.{Found, Unknown}
 use Rattle.bus.specs.Commands.{command_rows}
 use Rattle.bus.specs.AsWritten.{Row, table, find}
 use Rattle.bus.specs.CommandTheorems.{Alike}
@@ -28,11 +26,11 @@ number_among id (x ∷ xs) = cond (eqb id x) 1 (one_more (number_among id xs))
 abbrev pub paper_number : ℕ → ℕ
 paper_number id = number_among id (map (λ (row : Row). row.id) table)
 
-abbrev pub numbered : List CommandRow → List Lookup
-numbered rows = Unknown ∷ map (λ (row : CommandRow). Found row) rows
+abbrev pub numbered : List CommandRow → List (Option CommandRow)
+numbered rows = None ∷ map (λ (row : CommandRow). Some row) rows
 
-abbrev pub row_at : ℕ → Lookup
-row_at number = entry Unknown 0 number (numbered command_rows)
+abbrev pub row_at : ℕ → Option CommandRow
+row_at number = entry None 0 number (numbered command_rows)
 
 -- ---- the index
 

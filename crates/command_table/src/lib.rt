@@ -6,7 +6,7 @@ ghost use Rattle.std.specs.Prelude.{◌≡◌, ◌/◌};
 ghost use Rattle.bus.specs.Commands.{lookup};
 ghost use Rattle.command_table.specs.Index.{paper_number, row_at, index_word};
 
-use bus::{CommandRow, Lookup, ModeRight, Register, Ways};
+use bus::{CommandRow, ModeRight, Register, Ways};
 
 const BACKLIGHT: CommandRow = CommandRow {
     id: 0x00,
@@ -129,32 +129,34 @@ const SENSOR_GAIN: CommandRow = CommandRow {
 };
 
 // The row with this number, counted from 1.
-fn row_at(number: u8) -> Lookup
+#[tactic(auto, unfolding(crate::specs::Index::entry))]
+fn row_at(number: u8) -> Option<CommandRow>
     ensures { result ≡ row_at number }
 {
     match number {
-        0 => Lookup::Unknown,
-        1 => Lookup::Found(BACKLIGHT),
-        2 => Lookup::Found(MASTER),
-        3 => Lookup::Found(PARK),
-        4 => Lookup::Found(SPLASH),
-        5 => Lookup::Found(STRENGTH),
-        6 => Lookup::Found(HEATER),
-        7 => Lookup::Found(BEZEL),
-        8 => Lookup::Found(STATUS),
-        9 => Lookup::Found(PIXELS),
-        10 => Lookup::Found(CALIBRATION_MODE),
-        11 => Lookup::Found(RED_LEVEL),
-        12 => Lookup::Found(GREEN_LEVEL),
-        13 => Lookup::Found(BLUE_LEVEL),
-        14 => Lookup::Found(CURRENT_LIMIT),
-        15 => Lookup::Found(SENSOR_GAIN),
-        _ => Lookup::Unknown,
+        0 => None,
+        1 => Some(BACKLIGHT),
+        2 => Some(MASTER),
+        3 => Some(PARK),
+        4 => Some(SPLASH),
+        5 => Some(STRENGTH),
+        6 => Some(HEATER),
+        7 => Some(BEZEL),
+        8 => Some(STATUS),
+        9 => Some(PIXELS),
+        10 => Some(CALIBRATION_MODE),
+        11 => Some(RED_LEVEL),
+        12 => Some(GREEN_LEVEL),
+        13 => Some(BLUE_LEVEL),
+        14 => Some(CURRENT_LIMIT),
+        15 => Some(SENSOR_GAIN),
+        _ => None,
     }
 }
 
 // The numbers of the rows of the eight IDs from 8 * block on: a byte each, the first ID's lowest, 0 where an ID has no row. No ID comes to the last
 // arm; since its word differs from 0, the compiler keeps all sixteen words in one table.
+#[tactic(auto, unfolding(crate::specs::Index::entry))]
 fn index_word(block: u64) -> u64
     ensures { result ≡ index_word block }
 {
@@ -179,6 +181,7 @@ fn index_word(block: u64) -> u64
     }
 }
 
+#[tactic(auto, using(crate::proofs::IndexLaws::index_as_written))]
 fn row_number(command: u8) -> u8
     ensures { result ≡ paper_number (command / 2) }
 {
@@ -187,7 +190,8 @@ fn row_number(command: u8) -> u8
 }
 
 // The row that a command byte asks for: that of its ID.
-pub fn lookup_command(command: u8) -> Lookup
+#[tactic(auto, using(crate::proofs::IndexLaws::lookup_by_number))]
+pub fn lookup_command(command: u8) -> Option<CommandRow>
     ensures { result ≡ lookup (command / 2) }
 {
     row_at(row_number(command))

@@ -1,7 +1,6 @@
--- The loop of `exchange_all`: what one more byte adds to its output, and how many it takes.
-use Rattle.std.proofs.Common.{◌≡◌, ℕ, suc, ◌+◌, ◌<◌, min, List, [], ◌∷◌, ◌++◌, length, get_or, take, drop, set, sym, refl, ap, ◌∙◌, add-one, arith, drop_of_length-le, length-take-le, take_all, drop-cons, take-suc}
-use native.Mathlib.Omega.{min_cases}
-use lib.Seq.{take-length, drop-length, set-append_seam, append_snoc}
+-- The loop of `exchange_all`: what one more byte adds to its output.
+use Rattle.std.proofs.Common.{◌≡◌, ℕ, suc, ◌+◌, ◌<◌, List, [], ◌∷◌, ◌++◌, length, get_or, take, drop, set, sym, refl, ap, ◌∙◌, add-one, arith, length-take-le, drop-cons, take-suc}
+use lib.Seq.{set-append_seam, append_snoc}
 use Rattle.bus.specs.declared.Controller.{Controller}
 use Rattle.bus.specs.Bus.{exchange}
 use Rattle.bus.specs.Run.{run, outs}
@@ -27,10 +26,3 @@ pub sent_more : (c : Controller) (l d : List ℕ) (i : ℕ) → i < length l →
 sent_more c l d i h k =
     let passed : length (outs c (take i l)) ≡ i = outs_length (take i l) c ∙ length-take-le i l (omega arith) in
     rw (outs_more c l i h) (store_next (outs c (take i l)) d i (exchange (run c (take i l)) (get_or l i 0)).out (sym passed) k)
-
--- as many bytes as both input and output have
-pub take_least : (l : List ℕ) (m : ℕ) → take (min (length l) m) l ≡ take m l
-take_least l m = min_cases (length l) m _ (λ short e. rw e (take-length l ∙ sym (take_all m l short))) (λ long e. rw e)
-
-pub drop_least : (n : ℕ) (d : List ℕ) → drop (min n (length d)) d ≡ drop n d
-drop_least n d = min_cases n (length d) _ (λ short e. rw e) (λ long e. rw e (drop-length d ∙ sym (drop_of_length-le d long)))

@@ -7,7 +7,7 @@ use Rattle.controller.specs.declared.state.Step.{Step}
 use Rattle.controller.specs.declared.state.Step.TheVariants.{Next, Checksum}
 use Rattle.bus.specs.declared.command.Performed.{Performed}
 use Rattle.settings.specs.declared.settings.Settings.{Settings}
-use Rattle.settings.specs.Settings.{with_status, fresh}
+use Rattle.settings.specs.Settings.{fresh}
 use Rattle.bus.specs.Bus.{controller_of, ended, judge}
 
 abbrev pub state_of : Controller → BusState
@@ -28,11 +28,15 @@ abbrev pub assembled : BusState → Settings → List ℕ → List ℕ → Contr
 assembled s σ body bytes =
     controller_of s.phase s.escape (record { command = s.command; count = s.count; sum = s.sum; body = body })
     (record { bytes = bytes; len = s.len; sent = s.sent })
-    (with_status σ s.status)
+    (record σ { status = s.status })
 
 -- a controller of this state, where the other parts play no role
 abbrev pub alone : BusState → Controller
 alone s = assembled s fresh [] []
+
+-- what Bus's step does to a state
+abbrev pub on_state : (Controller → Controller) → BusState → BusState
+on_state step s = state_of (step (alone s))
 
 -- the controller once a step from this state is done with
 abbrev pub finished : BusState → Step → Settings → List ℕ → List ℕ → Controller

@@ -1,43 +1,26 @@
 // The exchange over a run of bytes. The controller is taken apart once: the two arrays are changed in place, the settings
 // where a packet ends, and the rest goes from step to step by value.
-ghost use Rattle.std.specs.Prelude.{◌≡◌, min, ◌++◌, length, drop};
+ghost use Rattle.std.specs.Prelude.{◌≡◌, ◌++◌, length, drop};
 ghost use Rattle.bus.specs.Bus as spec;
-ghost use Rattle.controller.specs.BusState.{assembled};
 ghost use Rattle.bus.specs.Run.{run, outs, exchanged};
 
 use crate::state::{BusState, Step};
-use bus::{Controller, Exchanged, REPLY_LIMIT};
-use settings::Settings;
+use bus::{Controller, Exchanged};
 
-fn least(a: usize, b: usize) -> usize
-    ensures { result ≡ min a b }
+// Exchanges the bytes of the input one after another, and puts those that the controller sends at the start of the output.
+// A byte that finds no room for the one sent out is not exchanged.
+#[tactic(auto, unfolding(bus::specs::Run::run, bus::specs::Run::outs))]
+pub fn exchange_all(controller: Controller, input: &[u8], output: &mut [u8]) -> Controller
+    ensures after { result ≡ run controller (exchanged input.now output.old) }
+    ensures sent { output.new ≡ outs controller (exchanged input.now output.old) ++ drop (length input.now) output.old }
 {
-    if a < b {
-        return a;
-    }
-    b
-}
-
-// The run on a controller taken apart.
-fn exchange_parts(
-    start: BusState,
-    held: Settings,
-    packet: [u8; 255],
-    reply: [u8; REPLY_LIMIT],
-    input: &[u8],
-    output: &mut [u8],
-) -> Controller
-    ensures after { result ≡ run (assembled start held packet reply) (exchanged input.now output.old) }
-    ensures sent { output.new ≡ outs (assembled start held packet reply) (exchanged input.now output.old)
-        ++ drop (length input.now) output.old }
-{
-    let mut state = start;
-    let mut settings = held;
-    let mut body = packet;
-    let mut bytes = reply;
-    let n = least(input.len(), output.len());
-    let mut i: usize = 0;
-    while i < n {
+    let mut state = BusState::of(controller);
+    let mut settings = controller.settings;
+    let mut body = controller.packet.body;
+    let mut bytes = controller.reply.bytes;
+    // An index, since nothing is known yet of what a loop over `output.iter_mut().zip(input)` writes: tried, its goals stayed open.
+    let n = input.len().min(output.len());
+    for i in 0..n {
         output[i] = state.out(&bytes);
         let step = state.after(input[i], &mut body, &mut bytes);
         match step {
@@ -46,40 +29,17 @@ fn exchange_parts(
             }
             Step::Checksum(sum) => {
                 let done = state.judged(sum, settings, &body);
-                let after = done.settings;
-                let answer = done.reply;
-                let unsent = answer.bytes;
-                settings = after;
-                bytes = unsent;
-                state = state.ended(after, answer);
+                settings = done.settings;
+                bytes = done.reply.bytes;
+                state = state.ended(settings, done.reply);
             }
         }
-        i += 1;
     }
     state.assembled(settings, body, bytes)
 }
 
-// Exchanges the bytes of the input one after another, and puts those that the controller sends at the start of the output.
-// A byte that finds no room for the one sent out is not exchanged.
-pub fn exchange_all(controller: Controller, input: &[u8], output: &mut [u8]) -> Controller
-    ensures after { result ≡ run controller (exchanged input.now output.old) }
-    ensures sent { output.new ≡ outs controller (exchanged input.now output.old) ++ drop (length input.now) output.old }
-{
-    let packet = controller.packet;
-    let reply = controller.reply;
-    let body = packet.body;
-    let bytes = reply.bytes;
-    exchange_parts(
-        BusState::of(controller),
-        controller.settings,
-        body,
-        bytes,
-        input,
-        output,
-    )
-}
-
 // One exchange: the byte out is fixed before the byte in is looked at.
+#[tactic(auto, unfolding(bus::specs::Run::run, bus::specs::Run::outs))]
 pub fn exchange(controller: Controller, byte: u8) -> Exchanged
     ensures { result ≡ spec.exchange controller byte }
 {

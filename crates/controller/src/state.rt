@@ -2,9 +2,9 @@
 // fast the loop over them is: docs/COMPARISON.md says what not to disturb.
 ghost use Rattle.std.specs.Prelude.{◌≡◌, ℕ, ◌<◌, List};
 ghost use Rattle.bus.specs.Bus as spec;
-ghost use Rattle.controller.specs.BusState.{state_of, alone, assembled, Steps, ended_with};
+ghost use Rattle.controller.specs.BusState.{state_of, assembled, on_state, Steps, ended_with};
 
-use crate::open_packet::{add, after_data, after_length, is_idle, keep, unescaped};
+use crate::open_packet::{after_data, after_length, is_idle, keep, unescaped};
 use bus::{Collected, Controller, Outgoing, Performed, Phase, REPLY_LIMIT, ReplyBytes, response};
 use number::byte;
 use registers::perform;
@@ -23,7 +23,8 @@ pub struct BusState {
     pub status: StatusBytes,
 }
 
-// What a byte leads to: the next state, or the end of a packet, told by its checksum byte out of its escape.
+// What a byte leads to: the next state, or the end of a packet, told by its checksum byte out of its escape. Neither is a refusal,
+// so it is no Result.
 #[derive(Clone, Copy)]
 pub enum Step {
     Next(BusState),
@@ -34,152 +35,122 @@ impl BusState {
     pub(crate) fn of(c: Controller) -> BusState
         ensures { result ≡ state_of c }
     {
-        let phase = c.phase;
-        let packet = c.packet;
-        let reply = c.reply;
-        let settings = c.settings;
-        let status = settings.status;
         BusState {
-            phase,
+            phase: c.phase,
             escape: c.escape,
-            command: packet.command,
-            count: packet.count,
-            sum: packet.sum,
-            len: reply.len,
-            sent: reply.sent,
-            status,
+            command: c.packet.command,
+            count: c.packet.count,
+            sum: c.packet.sum,
+            len: c.reply.len,
+            sent: c.reply.sent,
+            status: c.settings.status,
         }
     }
 
     pub(crate) fn assembled(
         self,
-        settings: Settings,
+        mut settings: Settings,
         body: [u8; 255],
         bytes: [u8; REPLY_LIMIT],
     ) -> Controller
         ensures { result ≡ assembled self settings body bytes }
     {
-        let phase = self.phase;
-        let packet = Collected {
-            command: self.command,
-            count: self.count,
-            sum: self.sum,
-            body,
-        };
-        let reply = Outgoing {
-            bytes,
-            len: self.len,
-            sent: self.sent,
-        };
-        let status = self.status;
-        let mut held = settings;
-        held.status = status;
+        settings.status = self.status;
         Controller {
-            phase,
+            phase: self.phase,
             escape: self.escape,
-            packet,
-            reply,
-            settings: held,
+            packet: Collected {
+                command: self.command,
+                count: self.count,
+                sum: self.sum,
+                body,
+            },
+            reply: Outgoing {
+                bytes,
+                len: self.len,
+                sent: self.sent,
+            },
+            settings,
         }
     }
 
+    #[tactic(auto, unfolding(settings::specs::Settings::flagged))]
     fn flagged(self, flag: Flag) -> BusState
-        ensures { result ≡ state_of (spec.flagged (alone self) flag) }
+        ensures { result ≡ on_state (λ c. spec.flagged c flag) self }
     {
-        let phase = self.phase;
-        let old = self.status;
         BusState {
-            phase,
-            escape: self.escape,
-            command: self.command,
-            count: self.count,
-            sum: self.sum,
-            len: self.len,
-            sent: self.sent,
-            status: old.with_flag(flag),
+            status: self.status.with_flag(flag),
+            ..self
         }
     }
 
     fn started(self) -> BusState
-        ensures { result ≡ state_of (spec.started (alone self)) }
+        ensures { result ≡ on_state spec.started self }
     {
-        let status = self.status;
         BusState {
             phase: Phase::Command,
             escape: false,
-            command: self.command,
-            count: self.count,
-            sum: self.sum,
             len: 0,
             sent: 0,
-            status,
+            ..self
         }
     }
 
+    #[tactic(auto, unfolding(bus::specs::Bus::start))]
     fn start(self) -> BusState
-        ensures { result ≡ state_of (spec.start (alone self)) }
+        ensures { result ≡ on_state spec.start self }
     {
-        let phase = self.phase;
-        if is_idle(phase) {
+        if is_idle(self.phase) {
             return self.started();
         }
         self.flagged(Flag::Incomplete).started()
     }
 
+    #[tactic(auto, unfolding(bus::specs::Bus::feed_at))]
     fn with_command(self, value: u8) -> BusState
-        ensures { result ≡ state_of (spec.feed_at Phase.Command (alone self) value) }
+        ensures { result ≡ on_state (λ c. spec.feed_at Phase.Command c value) self }
     {
-        let status = self.status;
         BusState {
             phase: Phase::Length,
             escape: false,
             command: value,
             count: 0,
             sum: value,
-            len: self.len,
-            sent: self.sent,
-            status,
+            ..self
         }
     }
 
+    #[tactic(auto, unfolding(bus::specs::Bus::feed_at))]
     fn with_length(self, value: u8) -> BusState
-        ensures { result ≡ state_of (spec.feed_at Phase.Length (alone self) value) }
+        ensures { result ≡ on_state (λ c. spec.feed_at Phase.Length c value) self }
     {
-        let status = self.status;
         BusState {
             phase: after_length(value),
             escape: false,
-            command: self.command,
             count: value,
-            sum: add(self.sum, value),
-            len: self.len,
-            sent: self.sent,
-            status,
+            sum: self.sum.wrapping_add(value),
+            ..self
         }
     }
 
+    #[tactic(auto, unfolding(bus::specs::Bus::feed_at))]
     fn with_data(self, left: u8, value: u8) -> BusState
-        ensures { result ≡ state_of (spec.feed_at (Phase.Data left) (alone self) value) }
+        ensures { result ≡ on_state (λ c. spec.feed_at (Phase.Data left) c value) self }
     {
-        let status = self.status;
         BusState {
             phase: after_data(left),
             escape: false,
-            command: self.command,
-            count: self.count,
-            sum: add(self.sum, value),
-            len: self.len,
-            sent: self.sent,
-            status,
+            sum: self.sum.wrapping_add(value),
+            ..self
         }
     }
 
     // A byte of the open packet, out of its escape.
+    #[tactic(auto, unfolding(bus::specs::Bus::feed_at))]
     fn feed(self, value: u8, body: &mut [u8; 255]) -> Step
         ensures { (bytes : List ℕ) → Steps (λ c. spec.feed c value) self body.old bytes result body.new bytes }
     {
-        let phase = self.phase;
-        match phase {
+        match self.phase {
             Phase::Idle => Step::Next(self),
             Phase::Command => Step::Next(self.with_command(value)),
             Phase::Length => Step::Next(self.with_length(value)),
@@ -191,20 +162,14 @@ impl BusState {
         }
     }
 
+    #[tactic(auto, unfolding(settings::specs::Settings::flagged))]
     fn escape_open(self) -> BusState
-        ensures { result ≡ state_of (spec.escape_open (alone self)) }
+        ensures { result ≡ on_state spec.escape_open self }
     {
-        let phase = self.phase;
-        let old = self.status;
         BusState {
-            phase,
             escape: true,
-            command: self.command,
-            count: self.count,
-            sum: self.sum,
-            len: self.len,
-            sent: self.sent,
-            status: old.with_flag(Flag::EscapeSeen),
+            status: self.status.with_flag(Flag::EscapeSeen),
+            ..self
         }
     }
 
@@ -220,8 +185,9 @@ impl BusState {
         self.feed(byte, body)
     }
 
+    #[tactic(auto, unfolding(bus::specs::Bus::outside))]
     fn outside(self, byte: u8) -> BusState
-        ensures { result ≡ state_of (spec.outside (alone self) byte) }
+        ensures { result ≡ on_state (λ c. spec.outside c byte) self }
     {
         if byte == 0x00 {
             return self;
@@ -231,29 +197,21 @@ impl BusState {
 
     fn one_sent(self) -> BusState
         requires { self.sent < self.len }
-        ensures { result ≡ state_of (spec.one_sent (alone self)) }
+        ensures { result ≡ on_state spec.one_sent self }
     {
-        let phase = self.phase;
-        let status = self.status;
         BusState {
-            phase,
-            escape: self.escape,
-            command: self.command,
-            count: self.count,
-            sum: self.sum,
-            len: self.len,
             sent: self.sent + 1,
-            status,
+            ..self
         }
     }
 
     // The byte sent out.
+    #[tactic(auto, unfolding(bus::specs::Bus::out))]
     pub(crate) fn out(self, bytes: &[u8; REPLY_LIMIT]) -> u8
         ensures { (σ : Settings) (body : List ℕ) → result ≡ spec.out (assembled self σ body bytes.now) }
     {
-        let sent = self.sent;
-        if sent < self.len {
-            return byte(bytes, sent as usize);
+        if self.sent < self.len {
+            return byte(bytes, self.sent as usize);
         }
         0xFF
     }
@@ -263,51 +221,44 @@ impl BusState {
         ensures { Steps (λ c. spec.after c byte) self body.old bytes.old result body.new bytes.new }
     {
         if byte == 0xA5 {
-            let none = [0; REPLY_LIMIT];
-            *bytes = none;
+            *bytes = [0; REPLY_LIMIT];
             return Step::Next(self.start());
         }
         if self.sent < self.len {
             return Step::Next(self.one_sent());
         }
-        let phase = self.phase;
-        if is_idle(phase) {
+        if is_idle(self.phase) {
             return Step::Next(self.outside(byte));
         }
         self.inside(byte, body)
     }
 
-    // What a checksum byte makes of the settings, and the reply to it.
-    pub(crate) fn judged(self, sum: u8, settings: Settings, body: &[u8; 255]) -> Performed
+    // What a checksum byte makes of the settings, and the reply to it. A wrong sum is found before there is a command, so it is
+    // none of registers' failures.
+    #[tactic(auto, unfolding(bus::specs::Bus::judge))]
+    pub(crate) fn judged(self, sum: u8, mut settings: Settings, body: &[u8; 255]) -> Performed
         ensures { (bytes : List ℕ) → ended_with self result body.now ≡ spec.judge (assembled self settings body.now bytes) sum }
     {
-        let status = self.status;
-        let mut held = settings;
-        held.status = status;
+        settings.status = self.status;
         if sum == self.sum {
-            let count = self.count as usize;
-            let all: &[u8] = body;
-            return perform(held, self.command, &all[..count]);
+            return perform(settings, self.command, &body[..self.count as usize]);
         }
         Performed {
-            settings: held.flagged(Flag::WrongChecksum),
+            settings: settings.flagged(Flag::WrongChecksum),
             reply: response(0x02),
         }
     }
 
     pub(crate) fn ended(self, settings: Settings, reply: ReplyBytes) -> BusState
-        ensures { result ≡ state_of (spec.ended (alone self) settings reply) }
+        ensures { result ≡ on_state (λ c. spec.ended c settings reply) self }
     {
-        let status = settings.status;
         BusState {
             phase: Phase::Idle,
             escape: false,
-            command: self.command,
-            count: self.count,
-            sum: self.sum,
             len: reply.len,
             sent: 0,
-            status,
+            status: settings.status,
+            ..self
         }
     }
 }

@@ -1,3 +1,1 @@
-pub mod Same
-pub mod Fields
 pub mod Reading

@@ -1,9 +1,13 @@
 -- The frame read, where no fault is told: its struct can hold it.
 use Prim.Native.Nat.{ℕ}
+use native.Mathlib.Omega.{arith}
 use mathlib.Core.Path.{◌≡◌, refl}
 use mathlib.Core.Bool.{false}
 use mathlib.Core.List.{List}
 use mathlib.Core.Option.{none, some}
+use lib.ListN.{get_or}
+use mir.Syntax.{w8}
+use mir.Val.{Fits}
 use Rattle.base.specs.Bytes.{Bytes}
 use Rattle.base.specs.Refusal.{Fault}
 use Rattle.frame.specs.declared.frame.Frame.{Frame as FrameStruct}
@@ -17,6 +21,10 @@ use Rattle.judging.specs.Decoding.{a_fault, a_frame, fault_told, frame_in, decod
 use Rattle.judging.specs.View.{fault_in, frame_read}
 use Rattle.judging.proofs.Exact.{decode_exact}
 use Rattle.decoding.specs.Steps.{carried}
+
+-- what a lent slice has
+pub lent_bytes : (b : List ℕ) → ((i : ℕ) → Fits w8 (get_or b i 0)) → Bytes b
+lent_bytes b h = λ i. omega (arith, h i)
 
 carried_short : (f : Frame) → frame_too_long f ≡ false → carried f ≡ f
 carried_short (opening s) e = refl

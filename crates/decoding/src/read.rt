@@ -1,7 +1,7 @@
 // The frame that bytes are, read by position. Whether they are one is not asked here.
 ghost use Rattle.std.specs.Prelude.{◌≡◌};
 ghost use Rattle.std.proofs.Math.Option.{some};
-ghost use Rattle.frame.specs.View.{change_made, change_of, frame_of};
+ghost use Rattle.frame.specs.View.{change_of, frame_of};
 ghost use Rattle.judging.specs.Decoding as spec;
 ghost use Rattle.decoding.specs.Steps as steps;
 
@@ -22,40 +22,28 @@ fn number_in(bytes: &[u8]) -> OrderNumber
     OrderNumber(le16(rest(bytes, 7)))
 }
 
-// Data that an ORDER cannot carry are left out.
+// More data than an ORDER can carry are a fault, told before: the raise by 0 is no frame's.
+#[tactic(auto, unfolding(judging::specs::Decoding::change_in))]
 fn change_in(field: &[u8]) -> Change
-    ensures { result ≡ change_of (change_made (spec.change_in field.now)) }
+    ensures { result ≡ change_of (steps.change_carried (spec.change_in field.now)) }
 {
-    let tag = byte(field, 0);
-    if tag == tag::COMMAND {
-        let made = Change::command(byte(field, 3), rest(field, 4));
-        return made.change;
+    match byte(field, 0) {
+        tag::COMMAND => Change::command(byte(field, 3), rest(field, 4)).unwrap_or(Change::raise(0)),
+        tag::RAISE => Change::raise(le16(rest(field, 3))),
+        _ => Change::lower(le16(rest(field, 3))),
     }
-    if tag == tag::RAISE {
-        return Change::raise(le16(rest(field, 3)));
-    }
-    Change::lower(le16(rest(field, 3)))
 }
 
+#[tactic(auto, unfolding(judging::specs::Decoding::frame_in))]
 pub(crate) fn frame_in(bytes: &[u8]) -> Frame
     ensures { result ≡ frame_of (some (steps.carried (spec.frame_in bytes.now))) }
 {
-    let tag = byte(bytes, 0);
-    if tag == tag::OPENING {
-        return Frame::opening(session_in(bytes));
+    let session = session_in(bytes);
+    match byte(bytes, 0) {
+        tag::OPENING => Frame::opening(session),
+        tag::WELCOME => Frame::welcome(session, from_block(rest(bytes, 10))),
+        tag::ORDER => Frame::order(session, number_in(bytes), change_in(rest(bytes, 9))),
+        tag::ACK => Frame::ack(session, number_in(bytes)),
+        _ => Frame::refuse(session, byte(bytes, 7)),
     }
-    if tag == tag::WELCOME {
-        return Frame::welcome(session_in(bytes), from_block(rest(bytes, 10)));
-    }
-    if tag == tag::ORDER {
-        return Frame::order(
-            session_in(bytes),
-            number_in(bytes),
-            change_in(rest(bytes, 9)),
-        );
-    }
-    if tag == tag::ACK {
-        return Frame::ack(session_in(bytes), number_in(bytes));
-    }
-    Frame::refuse(session_in(bytes), byte(bytes, 7))
 }

@@ -5,7 +5,7 @@ use mathlib.Core.List.Memᴰ
 use mathlib.Core.List.{List, [], ◌∷◌, flat_map, Memᴰ}
 use native.Mathlib.Omega.{arith}
 use lib.ListN.{drop}
-use Rattle.packet.specs.Packet.{total, checksum, escape_byte, escape, fields, packet_of, has_escape}
+use Rattle.packet.specs.Packet.{total, checksum, escape_byte, fields, packet_of, has_escape}
 use Rattle.number.specs.Signed.{offset, magnitude, sign}
 use Rattle.registers.specs.Block.{block, from_block}
 use Rattle.bus.specs.Commands.{lookup, access, write_register, perform_offered, perform_found}
@@ -36,7 +36,7 @@ abbrev welcomed : List ℕ
 welcomed = welcome_bytes 7 0x00 0x00
 
 pub pieces_delivered : PiecesDelivered
-unfolding flat_map fits counted at_tag skipping at_length at_contents receive calls encode decode fault_told rest_fault last_fault field_fault contents_allowed settings_allowed length_right frame_in change_in block from_block offset magnitude sign box.frame_in box.received box.opened box.ordered box.ordered_here box.sent office.open_session office.issue_refusal office.issue office.welcomed office.received packet_of fields escape escape_byte checksum total run after start inside feed_at judge after_length after_data perform_found perform_offered write_register lookup access apply has_escape
+unfolding flat_map fits counted at_tag skipping at_length at_contents receive calls encode decode fault_told rest_fault last_fault field_fault contents_allowed settings_allowed length_right frame_in change_in block from_block offset magnitude sign box.frame_in box.received box.opened box.ordered box.ordered_here box.sent office.open_session office.issue_refusal office.issue office.welcomed office.received packet_of fields escape_byte checksum total run after start inside feed_at judge after_length after_data perform_found perform_offered write_register lookup access apply has_escape
 pieces_delivered =
     record {
       supposed =

@@ -1,7 +1,9 @@
 -- What the code's structs mean. Public contracts speak of a frame through `meaning`.
-use Rattle.std.specs.Prelude.{ℕ, cond, List, length, take, replicate}
+use Rattle.std.specs.Prelude.{ℕ, cond, List, length, take, replicate, Result, Ok, Err}
 use Rattle.std.proofs.Math.Option.{Option, none, some}
-use Rattle.base.specs.Refusal.{Told, plain, told}
+use Rattle.base.specs.Refusal.{Told, told}
+use Rattle.base.specs.declared.refusal.Refusal.{Refusal}
+use Rattle.base.specs.Result.{Result as Answer, refused, accepted}
 use Rattle.base.specs.Lent.{overwritten}
 use Rattle.settings.specs.Settings.{fresh}
 use Rattle.settings.specs.declared.settings.Settings.{Settings}
@@ -11,8 +13,6 @@ use Rattle.frame.specs.declared.frame.Change.{Change as ChangeStruct}
 use Rattle.frame.specs.declared.frame.Frame.{Frame as FrameStruct}
 use Rattle.frame.specs.declared.frame.Kind.{Kind}
 use Rattle.frame.specs.declared.frame.Kind.TheVariants.{Malformed, Opening, Welcome, Order, Ack, Refuse}
-use Rattle.frame.specs.declared.verdict.Verdict.{Verdict}
-use Rattle.frame.specs.declared.verdict.Verdict.TheVariants.{Accepted, Refused}
 use Rattle.frame.specs.Frame.{data_limit, Change, command, raise, lower, too_long, Frame, opening, welcome, order, ack, refuse}
 
 -- ---- from a struct to its meaning
@@ -57,16 +57,13 @@ frame_of (some (order s n c)) = framed Order s n (change_of c) fresh
 frame_of (some (ack s k)) = bare Ack s k
 frame_of (some (refuse s r)) = bare (Refuse r) s 0
 
--- ---- what a verdict tells of a refusal, if it is one
+-- ---- what a refusal tells, if there is one
 
-abbrev pub refusal_of : Verdict → Option Told
-refusal_of Accepted = none
-refusal_of (Refused r) = some (told r)
+abbrev pub refusal_of : {A : Type 0} → Result A Refusal → Option Told
+refusal_of (Ok a) = none
+refusal_of (Err r) = some (told r)
 
--- ---- a change asked for: refused where it has more data than an ORDER can carry, and then a raise by 0
+-- ---- a change asked for: refused where it has more data than an ORDER can carry
 
-abbrev pub change_refusal : Change → Option Told
-change_refusal c = cond (too_long c) (some (plain 2)) none
-
-abbrev pub change_made : Change → Change
-change_made c = cond (too_long c) (raise 0) c
+abbrev pub change_made : Change → Answer ChangeStruct
+change_made c = cond (too_long c) (refused 2) (accepted (change_of c))

@@ -1,24 +1,24 @@
 // The frames by value.
-ghost use Rattle.std.specs.Prelude.{◌≡◌, ◌≤◌, min, length};
+ghost use Rattle.std.specs.Prelude.{◌≡◌, min, replicate};
+ghost use Rattle.base.specs.Writes.{answer};
 ghost use Rattle.settings.specs.Settings.{fresh};
 ghost use Rattle.frame.specs.Frame as spec;
 ghost use Rattle.frame.specs.View as view;
 
-use crate::verdict::Verdict;
-use base::{Refusal, store};
+use base::Refusal;
 use settings::Settings;
 
 // Two types, so that a session and an order's number cannot be exchanged.
-#[derive(Clone, Copy)]
+#[derive(Clone, Copy, PartialEq, Eq, PartialOrd, Ord)]
 pub struct SessionId(pub u32);
 
-#[derive(Clone, Copy)]
+#[derive(Clone, Copy, PartialEq, Eq, PartialOrd, Ord)]
 pub struct OrderNumber(pub u16);
 
 // A command's most data bytes.
 pub const DATA_LIMIT: usize = 16;
 
-// What an order asks for. A command's data stand beside it, in Change: the check does not cover an enum that holds an array.
+// What an order asks for. A command's data stand beside it, in Change, since an order of a batch has them elsewhere.
 #[derive(Clone, Copy)]
 pub enum Ask {
     Command(u8),
@@ -26,19 +26,12 @@ pub enum Ask {
     Lower(u16),
 }
 
-// The data of a command are the first count bytes of body.
+// The data of a command are the first count bytes of body; any count is answered, so body and count are no ArrayVec.
 #[derive(Clone, Copy)]
 pub struct Change {
     pub ask: Ask,
     pub count: u8,
     pub body: [u8; DATA_LIMIT],
-}
-
-// What became of a change asked for. A refused one leaves a raise by 0.
-#[derive(Clone, Copy)]
-pub struct ChangeMade {
-    pub verdict: Verdict,
-    pub change: Change,
 }
 
 #[derive(Clone, Copy)]
@@ -48,11 +41,12 @@ pub enum Kind {
     Welcome,
     Order,
     Ack,
-    // The refusal's number.
+    // The refusal's number: any byte, since a REFUSE is encoded whatever it carries.
     Refuse(u8),
 }
 
-// What a kind does not have is left at zero, or at fresh settings. The number is an order's, or the acknowledged count.
+// What a kind does not have is left at zero, or at fresh settings, and a contract says so: a struct, since a case of an enum would not
+// have it. The number is an order's, or the acknowledged count.
 #[derive(Clone, Copy)]
 pub struct Frame {
     pub kind: Kind,
@@ -64,64 +58,48 @@ pub struct Frame {
 
 impl Change {
     // The command with its data; more than an ORDER can carry are refused.
-    pub fn command(command: u8, bytes: &[u8]) -> ChangeMade
-        ensures refusal { view.refusal_of result.verdict ≡ view.change_refusal (spec.command command bytes.now) }
-        ensures change { result.change ≡ view.change_of (view.change_made (spec.command command bytes.now)) }
+    pub fn command(command: u8, bytes: &[u8]) -> Result<Change, Refusal>
+        ensures { answer result ≡ view.change_made (spec.command command bytes.now) }
     {
         if DATA_LIMIT < bytes.len() {
-            return ChangeMade {
-                verdict: Verdict::Refused(Refusal::DataTooLong),
-                change: Change::raise(0),
-            };
+            return Err(Refusal::DataTooLong);
         }
-        ChangeMade {
-            verdict: Verdict::Accepted,
-            change: Change::of_command(command, bytes),
-        }
-    }
-
-    fn of_command(command: u8, bytes: &[u8]) -> Change
-        requires { length bytes.now ≤ spec.data_limit }
-        ensures { result ≡ view.change_of (spec.command command bytes.now) }
-    {
         let mut body = [0; DATA_LIMIT];
-        store(bytes, &mut body, 0);
-        Change {
+        body[..bytes.len()].copy_from_slice(bytes);
+        Ok(Change {
             ask: Ask::Command(command),
             count: bytes.len() as u8,
             body,
-        }
+        })
     }
 
     // How many bytes of body are its data.
     pub fn data_length(self) -> usize
         ensures { result ≡ min self.count spec.data_limit }
     {
-        let count = self.count as usize;
-        if DATA_LIMIT < count {
-            return DATA_LIMIT;
+        usize::from(self.count).min(DATA_LIMIT)
+    }
+
+    fn without_data(ask: Ask) -> Change
+        ensures { result ≡ record { ask = ask; count = 0; body = replicate spec.data_limit 0 } }
+    {
+        Change {
+            ask,
+            count: 0,
+            body: [0; DATA_LIMIT],
         }
-        count
     }
 
     pub fn raise(step: u16) -> Change
         ensures { result ≡ view.change_of (spec.raise step) }
     {
-        Change {
-            ask: Ask::Raise(step),
-            count: 0,
-            body: [0; DATA_LIMIT],
-        }
+        Change::without_data(Ask::Raise(step))
     }
 
     pub fn lower(step: u16) -> Change
         ensures { result ≡ view.change_of (spec.lower step) }
     {
-        Change {
-            ask: Ask::Lower(step),
-            count: 0,
-            body: [0; DATA_LIMIT],
-        }
+        Change::without_data(Ask::Lower(step))
     }
 }
 
@@ -154,17 +132,19 @@ impl Frame {
     pub fn welcome(session: SessionId, settings: Settings) -> Frame
         ensures { result ≡ view.framed Kind.Welcome session.0 0 (view.change_of (spec.raise 0)) settings }
     {
-        let mut f = Frame::bare(Kind::Welcome, session, OrderNumber(0));
-        f.settings = settings;
-        f
+        Frame {
+            settings,
+            ..Frame::bare(Kind::Welcome, session, OrderNumber(0))
+        }
     }
 
     pub fn order(session: SessionId, number: OrderNumber, change: Change) -> Frame
         ensures { result ≡ view.framed Kind.Order session.0 number.0 change fresh }
     {
-        let mut f = Frame::bare(Kind::Order, session, number);
-        f.change = change;
-        f
+        Frame {
+            change,
+            ..Frame::bare(Kind::Order, session, number)
+        }
     }
 
     pub fn ack(session: SessionId, count: OrderNumber) -> Frame

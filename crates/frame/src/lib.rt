@@ -1,8 +1,6 @@
-// Frames of the adjustment link by value, and the verdict on one.
+// Frames of the adjustment link by value.
 #![tactic(auto)]
 
 mod frame;
-mod verdict;
 
-pub use frame::{Ask, Change, ChangeMade, DATA_LIMIT, Frame, Kind, OrderNumber, SessionId};
-pub use verdict::Verdict;
+pub use frame::{Ask, Change, DATA_LIMIT, Frame, Kind, OrderNumber, SessionId};

@@ -10,18 +10,18 @@ use mathlib.Core.Option.{none}
 use lib.ListN.{length, get_or, take, drop, length-append, length-drop, drop_of_length-le}
 use lib.Seq.{drop-cons, drop-drop}
 use Rattle.base.specs.Lent.{overwritten}
-use Rattle.frame.specs.declared.verdict.Verdict.TheVariants.{Accepted}
+use Rattle.std.specs.Prelude.{Ok}
 use Rattle.judging.specs.declared.End.TheVariants.{Box}
 use Rattle.judging.specs.Decoding.{decode}
 use Rattle.link.specs.View.{frame_limit}
 use Rattle.session.specs.declared.Cab.{Cab}
-use Rattle.outcome.specs.Batch.{cut, fits, Part, Outcome, begun, extended, part_of, bytes_of_parts, no_parts}
+use Rattle.outcome.specs.Batch.{cut, fits, Part, Outcome, begun, extended, part_of, bytes_of_parts, no_parts, GivesParts}
 use Rattle.session.specs.Box.{judged, judged_next, all_judged}
 use Rattle.outcome.specs.Turn.{Turn, bytes_written}
 use Rattle.session.proofs.Tools.{length_one_more}
 use Rattle.outcome.proofs.PartsLaws.{fits_next, fits_within, Tells, none_tells, with_part_tells, bytes_one_more, overwritten_behind}
 use Rattle.frame_run.specs.declared.Running.{Running}
-use Rattle.frame_run.specs.View.{Gives, Roomy, Follows, Steps}
+use Rattle.frame_run.specs.View.{Roomy, Follows, Steps}
 
 cut_next : (lengths bytes : List ℕ) (at i : ℕ) → i < length lengths →
     cut (drop i lengths) (drop at bytes) ≡ take (get_or lengths i 0) (drop at bytes) ∷ cut (drop (i + 1) lengths) (drop (at + get_or lengths i 0) bytes)
@@ -68,12 +68,12 @@ module _ (c : Cab) (lengths bytes before : List ℕ) where
         few = omega arith;
         short = omega arith;
         within = omega arith;
-        fit = rw sub-zero roomy.right.fit;
+        fit = rw sub-zero roomy.fit;
         roomy = roomy;
       }
 
   module _ {after : List ℕ} {run : Running} {i : ℕ} (s : SoFar c lengths bytes before after run i) where
-    pub so_far_all : length lengths ≤ i → Gives (all_judged c (cut lengths bytes)) (record { cab = run.cab; verdict = Accepted; parts = run.parts }) before after
+    pub so_far_all : length lengths ≤ i → GivesParts (all_judged c (cut lengths bytes)) (record { state = run.cab; parts = Ok run.parts }) before after
     so_far_all h =
         rw (← s.left, drop_of_length-le lengths h)
         (record {
@@ -108,7 +108,7 @@ module _ (c : Cab) (lengths bytes before : List ℕ) where
             left = rw stepped.at_is (sym (ap (foldl judged_next s.outcome) (cut_next lengths bytes run.at i h)) ∙ s.left);
             state_is = stepped.state_is ∙ follows.state_is;
             refusal_is = s.refusal_is;
-            tells = rw stepped.parts_are (with_part_tells run.parts earlier _ (part_of turn) s.tells (omega (arith, s.roomy.right.few)) (rw (follows.refusal_is, follows.length_is)));
+            tells = rw stepped.parts_are (with_part_tells run.parts earlier _ (part_of turn) s.tells (omega (arith, s.roomy.few)) (rw (follows.refusal_is, follows.length_is)));
             count_is = length_one_more earlier (part_of turn) ∙ rw s.count_is;
             written_is = long;
             output_is = output;

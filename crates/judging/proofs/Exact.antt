@@ -10,6 +10,8 @@ use lib.ListN.{length, get_or, drop, length-drop, drop_of_length-le}
 use lib.Seq.{length-take-le, drop-cons}
 use lib.Dec.{T, eqb, leb, ltb}
 use borrow.Author.Tests.{eqb-true, eqb-false, leb-true, ltb-false}
+use Rattle.std.specs.Cmp.Lexicographic.{same_text}
+use Rattle.std.specs.Str.{bytes_eq}
 use Rattle.base.specs.Bytes.{Bytes}
 use Rattle.base.specs.Refusal.{Fault}
 use Rattle.base.proofs.ByteLaws.{bytes_take, bytes_drop}
@@ -50,7 +52,7 @@ use Rattle.link.specs.Encoding.{
 }
 use Rattle.judging.specs.declared.End.{End}
 use Rattle.judging.specs.declared.End.TheVariants.{Box, Office}
-use Rattle.judging.specs.Decoding.{contents_length, field_length, contents, is_first, is_change, is_for, length_right, same, settings_allowed, contents_allowed, unless, field_fault, end_fault, last_fault, rest_fault, fault_told, change_in, frame_in, a_frame, decoded, decode}
+use Rattle.judging.specs.Decoding.{contents_length, field_length, contents, is_first, is_change, is_for, length_right, settings_allowed, contents_allowed, unless, field_fault, end_fault, last_fault, rest_fault, fault_told, change_in, frame_in, a_frame, decoded, decode}
 use Rattle.judging.specs.Theorems.{reader, DecodeExact, DecodeEncode}
 use Rattle.judging.specs.View.{frame_read}
 use Rattle.judging.proofs.Carried.{refuse_valid}
@@ -197,14 +199,6 @@ refuse_encodes d h long allowed =
 
 -- ---- those of two fields
 
-same_equal : (a b : List ℕ) → same a b ≡ true → a ≡ b
-same_equal [] [] e = refl
-same_equal [] (y ∷ b) e = absurd (subst T (sym e) tt)
-same_equal (x ∷ a) [] e = absurd (subst T (sym e) tt)
-same_equal (x ∷ a) (y ∷ b) e =
-    let equal = both_true (eqb x y) (same a b) e in
-    λ i. eqb-true x y equal.0 i ∷ same_equal a b equal.1 i
-
 welcome_encodes : (d r : List ℕ) → Bytes d → Bytes r → length_right 0x11 (length d) ≡ true → (offset : ℕ) → rest_fault 0x11 r offset ≡ none →
     Encodes Office (field 0x11 d ++ r)
 unfolding length_right rest_fault contents_allowed settings_allowed encode
@@ -212,8 +206,8 @@ welcome_encodes d r h hr long offset e =
     let second = last_right (eqb (get_or r 0 0) 0x20) r offset hr e in
     let tag = eqb-true (get_or r 0 0) 0x20 second.0.tag_expected in
     let settings = contents r in
-    let allowed = both_true (in_range (from_block settings)) (same (block (from_block settings)) settings) (rw tag at second.0.permitted) in
-    let written : block (from_block settings) ≡ settings = same_equal _ settings allowed.1 in
+    let allowed = both_true (in_range (from_block settings)) (bytes_eq (block (from_block settings)) settings) (rw tag at second.0.permitted) in
+    let written : block (from_block settings) ≡ settings = same_text _ settings (sym allowed.1) in
     let whole : field 0x20 settings ≡ r = ap (λ (t : ℕ). field t settings) (sym tag) ∙ sym second.1 in
     record {
       frame = welcome (le32 d) (from_block settings);

@@ -10,7 +10,7 @@ use mathlib.Core.Option.{Option, none, some, some-injective, none-ne-some, some-
 use mathlib.Core.Logic.{inl, inr}
 use lib.Dec.{T}
 use Rattle.base.specs.Refusal.{Fault, fault}
-use Rattle.base.proofs.Tests.{cond_cases}
+use Rattle.std.proofs.lemmas.Bool.{cond_both}
 use Rattle.judging.specs.Decoding.{unless}
 use Rattle.judging.specs.Faults.{Place, Test, found, all_found, Before, lower, listed, Least}
 use Rattle.judging.specs.Theorems.{OneLeast}
@@ -126,7 +126,7 @@ one_more : (ts : List Test) (p : Place) (ps : List Place) (f : Fault) → Memᴰ
 one_more [] p ps f m = m
 one_more (t ∷ ts) p ps f m =
     elim (Memᴰ.append_cases (found t ps) m) as (λ _. Memᴰ f (all_found (t ∷ ts) (p ∷ ps))) [
-      | inl n ↦ Memᴰ.append_left (all_found ts (p ∷ ps)) (cond_cases (Memᴰ f) (t.holds p) _ _ (λ _. Memᴰ.tail n) (λ _. n))
+      | inl n ↦ Memᴰ.append_left (all_found ts (p ∷ ps)) (cond_both (t.holds p) _ _ (Memᴰ f) (λ _. Memᴰ.tail n) (λ _. n))
       | inr n ↦ Memᴰ.append_right (found t (p ∷ ps)) (one_more ts p ps f n)
     ]
 

@@ -7,6 +7,7 @@ use mathlib.Core.List.{List, [], ◌∷◌, ◌++◌}
 use mathlib.Core.Option.{Option, none, some}
 use lib.ListN.{length, get_or}
 use borrow.Author.Tests.{eq-eqb, le-leb, lt-leb}
+use Rattle.std.specs.Str.{bytes_eq}
 use Rattle.base.specs.Refusal.{Fault, fault}
 use Rattle.number.specs.Number.{le16_bytes, le32, le32_bytes}
 use Rattle.number.proofs.NumberLaws.{le16_read}
@@ -24,7 +25,6 @@ use Rattle.judging.specs.Decoding.{
   is_change,
   is_for,
   length_right,
-  same,
   settings_allowed,
   refusal_allowed,
   contents_allowed,
@@ -59,13 +59,13 @@ refusal_right : (s r : ℕ) → refusal_allowed (le32 (le32_bytes s)) r ≡ true
 unfolding whole_fault length_right contents_allowed
 refusal_right s r e = rw e
 
-same_refl : (l : List ℕ) → same l l ≡ true
-same_refl [] = refl
-same_refl (x ∷ l) = rw (eq-eqb x x refl) (same_refl l)
+bytes_eq_refl : (l : List ℕ) → bytes_eq l l ≡ true
+bytes_eq_refl [] = refl
+bytes_eq_refl (x ∷ l) = rw (eq-eqb x x refl) (bytes_eq_refl l)
 
 settings_right : (σ : Settings) → Held σ → (offset : ℕ) → whole_fault true 0x20 (block σ) offset ≡ none
 unfolding whole_fault length_right contents_allowed settings_allowed
-settings_right σ held offset = rw (block_long σ, block_read σ held, held_in_range σ held, same_refl (block σ))
+settings_right σ held offset = rw (block_long σ, block_read σ held, held_in_range σ held, bytes_eq_refl (block σ))
 
 pub change_right : (c : Change) → ValidChange c → (rest : List ℕ) (offset : ℕ) →
     last_fault (is_change (get_or (change_field c ++ rest) 0 0)) (change_field c ++ rest) offset ≡ end_fault rest (offset + length (change_field c))

@@ -1,5 +1,6 @@
 -- Bytes to a frame, or to what is wrong with them, in the order in which the code tests. Faults.antt says the same in the paper's terms.
-use Rattle.std.specs.Prelude.{ℕ, ◌+◌, Bool, true, false, cond, ◌&&◌, ◌||◌, List, [], ◌∷◌, length, get_or, take, drop, eqb, leb, ltb}
+use Rattle.std.specs.Prelude.{ℕ, ◌+◌, Bool, true, cond, ◌&&◌, ◌||◌, List, length, get_or, take, drop, eqb, leb, ltb}
+use Rattle.std.specs.Str.{bytes_eq}
 use Rattle.std.proofs.Math.Option.{Option, none, some}
 use Rattle.base.specs.Refusal.{Fault, fault}
 use Rattle.number.specs.Number.{le16, le32}
@@ -63,15 +64,9 @@ length_right tag n =
     (cond (eqb tag 0x21) (leb 1 n && leb n (1 + data_limit))
     (eqb n step_length)))))))
 
-abbrev pub same : List ℕ → List ℕ → Bool
-same [] [] = true
-same [] (y ∷ ys) = false
-same (x ∷ xs) [] = false
-same (x ∷ xs) (y ∷ ys) = eqb x y && same xs ys
-
 -- settings that a controller could hold, in the bytes that it would write
 unfoldable pub settings_allowed : List ℕ → Bool
-settings_allowed d = in_range (from_block d) && same (block (from_block d)) d
+settings_allowed d = in_range (from_block d) && bytes_eq (block (from_block d)) d
 
 -- what a REFUSE may carry
 abbrev pub refusal_allowed : ℕ → ℕ → Bool

@@ -2,26 +2,9 @@
 // call that keeps them is in decoding.
 #![tactic(auto)]
 
-use base::FrameFault;
-use frame::Frame;
-
 // The two ends of the link.
 #[derive(Clone, Copy)]
 pub enum End {
     Box,
     Office,
-}
-
-// What is wrong with a frame, with the offset of the first byte of the field at fault.
-#[derive(Clone, Copy)]
-pub enum Found {
-    Nothing,
-    At(FrameFault, usize),
-}
-
-// What bytes are at an end: a frame meant for it, or beside a fault the malformed frame.
-#[derive(Clone, Copy)]
-pub struct Judged {
-    pub found: Found,
-    pub frame: Frame,
 }

@@ -2,14 +2,21 @@
 use Prim.Native.Nat.{ℕ, ◌+◌, ◌≤◌}
 use native.Mathlib.Nat.{min-le_right}
 use native.Mathlib.Omega.{arith}
-use mathlib.Core.Path.{◌≡◌, refl, sym}
-use mathlib.Core.Bool.{false}
-use mathlib.Core.List.{List}
-use lib.ListN.{length, take, length-take}
-use lib.Seq.{length-take-le}
+use mathlib.Core.Path.{◌≡◌, refl}
+use mathlib.Core.Bool.{Bool, true, false, cond}
+use mathlib.Core.List.{List, []}
+use mathlib.Core.Option.{none, some}
+use lib.ListN.{length, length-take}
 use lib.Dec.{ltb}
 use borrow.Author.Tests.{ltb-false, le-ltb}
+use Rattle.std.specs.Prelude.{Result, Ok, Err}
+use Rattle.base.specs.declared.refusal.Refusal.{Refusal}
 use Rattle.base.specs.Lent.{overwritten}
+use Rattle.base.specs.declared.refusal.Refusal.TheVariants.{OutputTooShort}
+use Rattle.base.specs.Refusal.{number, plain}
+use Rattle.base.specs.Result.{refused, accepted}
+use Rattle.base.specs.Writes.{Writes, answer, length_of, bytes_of, fitting}
+use Rattle.base.proofs.Refusals.{number_determines}
 use Rattle.settings.specs.declared.settings.Settings.{Settings}
 use Rattle.frame.specs.declared.frame.Ask.{Ask}
 use Rattle.frame.specs.declared.frame.Ask.TheVariants.{Command, Raise, Lower}
@@ -21,19 +28,10 @@ use Rattle.registers.proofs.BlockTheorems.{block_long}
 use Rattle.frame.specs.Frame.{data_limit, Change, command, raise, lower, Frame, opening, welcome, order, ack, refuse, too_long}
 use Rattle.link.specs.Encoding.{change_field, encode}
 use Rattle.link.specs.Steps.{frame_too_long}
-use Rattle.frame.specs.View.{asked_as, asked, meaning_as, meaning}
-use Rattle.link.specs.View.{frame_limit, encoding_of, sent_bytes, Sends}
-use Rattle.link.specs.declared.encoded.Sent.{Sent}
+use Rattle.frame.specs.View.{asked_as, asked, meaning_as, meaning, refusal_of}
+use Rattle.link.specs.View.{frame_limit, encoding_of, sent_bytes, sent_refusal, length_written, Sends}
 
 -- ---- lengths
-
--- the first n of an array of k
-module _ (k n : ℕ) (l : List ℕ) (fits : n ≤ k) (long : length l ≡ k) where
-  pub prefix_fits : n ≤ length l
-  prefix_fits = omega arith
-
-  pub prefix_long : n ≡ length (take n l)
-  prefix_long = sym (length-take-le n l prefix_fits)
 
 change_length : (c : Change) → too_long c ≡ false → length (change_field c) ≤ 4 + data_limit
 change_length (command k d) e = omega (arith, ltb-false data_limit (length d) e)
@@ -73,14 +71,42 @@ meaning_length f e = meaning_as_length f.kind f.session.0 f.number.0 (asked f.ch
 pub frame_fits : (f : FrameStruct) (room : ℕ) → length f.change.body ≡ data_limit → frame_limit ≤ room → ltb room (length (encoding_of (meaning f))) ≡ false
 frame_fits f room body fits = le-ltb room (length (encoding_of (meaning f))) (omega (arith, meaning_length f body))
 
--- the same bytes sent
-pub sends_equal : {xs ys : List ℕ} {r : Sent} {before after : List ℕ} → Sends xs r before after → xs ≡ ys → Sends ys r before after
-sends_equal sent e = rw e at sent
+-- ---- bytes written whole are sent
+
+refused_short : (r : Result ℕ Refusal) → answer r ≡ refused 1 → (refusal_of r ≡ some (plain 1)) × (length_written r ≡ 0)
+refused_short (Ok n) e = absurd cc
+refused_short (Err q) e =
+    let one : number q ≡ 1 = cc in
+    let short : q ≡ OutputTooShort = number_determines q OutputTooShort (omega (arith, one)) one in
+    rw short (refl, refl)
+
+accepted_whole : (n : ℕ) (r : Result ℕ Refusal) → answer r ≡ accepted n → (refusal_of r ≡ none) × (length_written r ≡ n)
+accepted_whole n (Ok m) e = (refl, cc)
+accepted_whole n (Err q) e = absurd cc
+
+by_room : (short : Bool) (bytes : List ℕ) (r : Result ℕ Refusal) → answer r ≡ length_of (cond short (refused 1) (accepted bytes)) →
+    (refusal_of r ≡ cond short (some (plain 1)) none) × (length_written r ≡ length (cond short [] bytes))
+by_room true bytes r e = refused_short r e
+by_room false bytes r e = accepted_whole (length bytes) r e
+
+written_bytes : (short : Bool) (bytes : List ℕ) → bytes_of (cond short (refused 1) (accepted bytes)) ≡ cond short [] bytes
+written_bytes true bytes = refl
+written_bytes false bytes = refl
+
+pub sends_written : (bytes : List ℕ) (r : Result ℕ Refusal) (before after : List ℕ) → Writes (fitting bytes) r before after → Sends bytes r before after
+unfolding fitting sent_bytes sent_refusal
+sends_written bytes r before after written =
+    let told = by_room (ltb (length before) (length bytes)) bytes r written.answer_is in
+    record {
+      refusal_is = told.0;
+      length_is = told.1;
+      output_is = rw written_bytes at written.output_is;
+    }
 
 -- such an output takes the whole of any
-pub sent_whole : (f : FrameStruct) (r : Sent) (before after : List ℕ) → length f.change.body ≡ data_limit → frame_limit ≤ length before →
+pub sent_whole : (f : FrameStruct) (r : Result ℕ Refusal) (before after : List ℕ) → length f.change.body ≡ data_limit → frame_limit ≤ length before →
     Sends (encoding_of (meaning f)) r before after →
-    (r.len ≡ length (encoding_of (meaning f))) × (after ≡ overwritten (encoding_of (meaning f)) before)
+    (length_written r ≡ length (encoding_of (meaning f))) × (after ≡ overwritten (encoding_of (meaning f)) before)
 unfolding sent_bytes
 sent_whole f r before after body fits sent =
     let fitting = frame_fits f (length before) body fits in

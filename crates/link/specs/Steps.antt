@@ -1,12 +1,6 @@
 -- What private functions do on the way: definitions that no public contract cites.
-use Rattle.std.specs.Prelude.{ℕ, ◌+◌, Bool, false, List, length}
-use Rattle.std.proofs.lemmas.List.Edits.{sets}
-use Rattle.link.specs.declared.encoded.Encoded.{Encoded}
+use Rattle.std.specs.Prelude.{Bool, false}
 use Rattle.frame.specs.Frame.{Frame, opening, welcome, order, ack, refuse, too_long}
-
--- with bytes behind those that it has
-unfoldable pub pushed : Encoded → List ℕ → Encoded
-pushed e bytes = record { bytes = sets e.bytes e.len bytes; len = e.len + length bytes }
 
 -- whether a frame has more data than its struct has room for
 abbrev pub frame_too_long : Frame → Bool

@@ -1,135 +1,95 @@
 // Frames to bytes.
-ghost use Rattle.std.specs.Prelude.{◌≡◌, ◌++◌, ◌+◌, ◌≤◌, length};
-ghost use Rattle.number.specs.Number.{le16_bytes, le32_bytes as le32_bytes_of};
+ghost use Rattle.std.specs.Prelude.{◌≡◌, ◌∷◌, [], ◌++◌, ◌+◌, ◌≤◌, length};
+ghost use Rattle.number.specs.Number.{le16_bytes, le32_bytes};
 ghost use Rattle.frame.specs.View.{asked, meaning};
 ghost use Rattle.frame.specs.Frame as frames;
 ghost use Rattle.link.specs.Encoding as spec;
-ghost use Rattle.link.specs.Steps as steps;
 ghost use Rattle.link.specs.View as view;
 
-use crate::encoded::{Encoded, Sent, put};
+use crate::encoded::{Encoded, append, append_field, field};
 use crate::tag;
+use base::{Written, put};
 use frame::{Ask, Change, Frame, Kind, OrderNumber, SessionId};
-use number::{high, low};
 use registers::block;
 use settings::Settings;
 
-fn le32_bytes(x: u32) -> [u8; 4]
-    ensures { result ≡ le32_bytes_of x }
-{
-    [
-        (x % 256) as u8,
-        (x / 256 % 256) as u8,
-        (x / 65536 % 256) as u8,
-        (x / 16777216 % 256) as u8,
-    ]
-}
-
 // A session and an order's number or count.
 fn numbered(session: SessionId, number: OrderNumber) -> [u8; 6]
-    ensures { result ≡ le32_bytes_of session.0 ++ le16_bytes number.0 }
+    ensures { result ≡ le32_bytes session.0 ++ le16_bytes number.0 }
 {
-    let s = le32_bytes(session.0);
-    let n = number.0;
-    [s[0], s[1], s[2], s[3], low(n), high(n)]
+    let [a, b, c, d] = session.0.to_le_bytes();
+    let [low, high] = number.0.to_le_bytes();
+    [a, b, c, d, low, high]
 }
 
-// The first field of OPEN and WELCOME.
-fn session_field(tag: u8, session: SessionId) -> Encoded
-    ensures { result ≡ view.encoded (spec.field tag (le32_bytes_of session.0)) }
+// A session and a refusal.
+fn refusing(session: SessionId, refusal: u8) -> [u8; 5]
+    ensures { result ≡ le32_bytes session.0 ++ refusal ∷ [] }
 {
-    let s = le32_bytes(session.0);
-    Encoded::empty().field(tag, &s)
+    let [a, b, c, d] = session.0.to_le_bytes();
+    [a, b, c, d, refusal]
 }
 
-// The first field of ORDER and ACK.
-fn numbered_field(tag: u8, session: SessionId, number: OrderNumber) -> Encoded
-    ensures { result ≡ view.encoded (spec.field tag (le32_bytes_of session.0 ++ le16_bytes number.0)) }
-{
-    let b = numbered(session, number);
-    Encoded::empty().field(tag, &b)
-}
-
+#[tactic(auto, unfolding(crate::specs::Encoding::encode))]
 fn welcome(session: SessionId, settings: Settings) -> Encoded
-    ensures { result ≡ view.encoded (spec.encode (frames.welcome session.0 settings)) }
+    ensures { result.items ≡ spec.encode (frames.welcome session.0 settings) }
 {
-    let b = block(settings);
-    session_field(tag::WELCOME, session).field(tag::SETTINGS, &b)
+    let mut frame = field(tag::WELCOME, &session.0.to_le_bytes());
+    append_field(tag::SETTINGS, &block(settings), &mut frame);
+    frame
 }
 
-fn command_field(e: Encoded, command: u8, bytes: &[u8]) -> Encoded
-    requires { e.len + 4 + length bytes.now ≤ view.frame_limit }
-    ensures { result ≡ steps.pushed e (spec.change_field (frames.command command bytes.now)) }
+#[tactic(auto, unfolding(crate::specs::Encoding::encode))]
+fn order(session: SessionId, number: OrderNumber, change: Change) -> Encoded
+    ensures { result.items ≡ spec.encode (frames.order session.0 number.0 (asked change)) }
 {
-    let k = [command];
-    e.header(tag::COMMAND, bytes.len() as u16 + 1)
-        .push(&k)
-        .push(bytes)
+    let mut frame = field(tag::ORDER, &numbered(session, number));
+    append_change(change, &mut frame);
+    frame
 }
 
-fn step_field(e: Encoded, tag: u8, step: u16) -> Encoded
-    requires { e.len + 5 ≤ view.frame_limit }
-    ensures { result ≡ steps.pushed e (spec.field tag (le16_bytes step)) }
+fn append_change(change: Change, frame: &mut Encoded)
+    requires { length frame.old.items + 4 + frames.data_limit ≤ view.frame_limit }
+    ensures { frame.new.items ≡ frame.old.items ++ spec.change_field (asked change) }
 {
-    let b = [low(step), high(step)];
-    e.field(tag, &b)
-}
-
-fn change_field(e: Encoded, change: Change) -> Encoded
-    requires { e.len + 4 + frames.data_limit ≤ view.frame_limit }
-    ensures { result ≡ steps.pushed e (spec.change_field (asked change)) }
-{
-    let ask = change.ask;
-    match ask {
+    match change.ask {
         Ask::Command(command) => {
-            let body = change.body;
-            let len = change.data_length();
-            command_field(e, command, &body[..len])
+            append_command(command, &change.body[..change.data_length()], frame)
         }
-        Ask::Raise(step) => step_field(e, tag::RAISE, step),
-        Ask::Lower(step) => step_field(e, tag::LOWER, step),
+        Ask::Raise(step) => append_field(tag::RAISE, &step.to_le_bytes(), frame),
+        Ask::Lower(step) => append_field(tag::LOWER, &step.to_le_bytes(), frame),
     }
 }
 
-fn order(session: SessionId, number: OrderNumber, change: Change) -> Encoded
-    ensures { result ≡ view.encoded (spec.encode (frames.order session.0 number.0 (asked change))) }
+fn append_command(command: u8, bytes: &[u8], frame: &mut Encoded)
+    requires room { length frame.old.items + 4 + frames.data_limit ≤ view.frame_limit }
+    requires short { length bytes.now ≤ frames.data_limit }
+    ensures { frame.new.items ≡ frame.old.items ++ spec.change_field (frames.command command bytes.now) }
 {
-    change_field(numbered_field(tag::ORDER, session, number), change)
-}
-
-fn refuse(session: SessionId, refusal: u8) -> Encoded
-    ensures { result ≡ view.encoded (spec.encode (frames.refuse session.0 refusal)) }
-{
-    let s = le32_bytes(session.0);
-    let b = [s[0], s[1], s[2], s[3], refusal];
-    Encoded::empty().field(tag::REFUSE, &b)
+    let [low, high] = (bytes.len() as u16 + 1).to_le_bytes();
+    append(&[tag::COMMAND, low, high, command], frame);
+    append(bytes, frame);
 }
 
 // A frame as bytes; the malformed one has none.
+#[tactic(auto, unfolding(crate::specs::Encoding::encode))]
 pub fn encode(frame: Frame) -> Encoded
-    ensures whole { result ≡ view.encoded (view.encoding_of (meaning frame)) }
     ensures bytes { view.bytes_of result ≡ view.encoding_of (meaning frame) }
-    ensures short { result.len ≤ view.frame_limit }
+    ensures short { length (view.bytes_of result) ≤ view.frame_limit }
 {
-    let kind = frame.kind;
-    let session = frame.session;
-    let number = frame.number;
-    match kind {
-        Kind::Malformed => Encoded::empty(),
-        Kind::Opening => session_field(tag::OPENING, session),
-        Kind::Welcome => welcome(session, frame.settings),
-        Kind::Order => order(session, number, frame.change),
-        Kind::Ack => numbered_field(tag::ACK, session, number),
-        Kind::Refuse(refusal) => refuse(session, refusal),
+    match frame.kind {
+        Kind::Malformed => Encoded::new(),
+        Kind::Opening => field(tag::OPENING, &frame.session.0.to_le_bytes()),
+        Kind::Welcome => welcome(frame.session, frame.settings),
+        Kind::Order => order(frame.session, frame.number, frame.change),
+        Kind::Ack => field(tag::ACK, &numbered(frame.session, frame.number)),
+        Kind::Refuse(refusal) => field(tag::REFUSE, &refusing(frame.session, refusal)),
     }
 }
 
 // Writes a frame at the start of out. A refusal leaves out as it was.
-pub fn send(frame: Frame, out: &mut [u8]) -> Sent
+pub fn send(frame: Frame, out: &mut [u8]) -> Written
     ensures { view.Sends (view.encoding_of (meaning frame)) result out.old out.new }
 {
-    let e = encode(frame);
-    let bytes = e.bytes;
-    let len = e.len;
-    put(&bytes[..len], &mut *out)
+    put(encode(frame).as_slice(), out)
 }

@@ -5,5 +5,5 @@ mod encoded;
 mod encoder;
 pub mod tag;
 
-pub use encoded::{Encoded, FRAME_LIMIT, Sent};
+pub use encoded::{Encoded, FRAME_LIMIT};
 pub use encoder::{encode, send};

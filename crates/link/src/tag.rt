@@ -1,4 +1,4 @@
-// The tags of a frame's fields.
+// The tags of a frame's fields: bytes, since one that is no tag is read too.
 pub const OPENING: u8 = 0x10;
 
 pub const WELCOME: u8 = 0x11;

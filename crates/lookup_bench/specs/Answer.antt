@@ -1,6 +1,6 @@
 -- What a lookup answers, in one number: the data count in the lowest byte, then the register, whether it is written, whether it is
 -- available at any time, and whether it is written in calibration mode alone; 0 for an ID that has no row.
-use Rattle.std.specs.Prelude.{ℕ, ◌+◌}
+use Rattle.std.specs.Prelude.{ℕ, ◌+◌, Option, Some, None}
 use Rattle.bus.specs.declared.command.Register.{Register}
 use Rattle.bus.specs.declared.command.Register.TheVariants.{
   Backlight,
@@ -24,8 +24,6 @@ use Rattle.bus.specs.declared.command.Ways.TheVariants.{ReadWrite, ReadOnly}
 use Rattle.bus.specs.declared.command.ModeRight.{ModeRight}
 use Rattle.bus.specs.declared.command.ModeRight.TheVariants.{Always, MasterOn, CalibrationOnly}
 use Rattle.bus.specs.declared.command.CommandRow.{CommandRow}
-use Rattle.bus.specs.declared.command.Lookup.{Lookup}
-use Rattle.bus.specs.declared.command.Lookup.TheVariants.{Found, Unknown}
 
 abbrev pub register_code : Register → ℕ
 register_code Backlight = 0x000
@@ -56,6 +54,6 @@ right_code CalibrationOnly = 0x4000
 abbrev pub row_answer : CommandRow → ℕ
 row_answer row = row.count + register_code row.register + ways_code row.ways + right_code row.right
 
-abbrev pub answer : Lookup → ℕ
-answer (Found row) = row_answer row
-answer Unknown = 0
+abbrev pub answer : Option CommandRow → ℕ
+answer (Some row) = row_answer row
+answer None = 0

@@ -1,5 +1,5 @@
 -- The lookup as it would be without a table, in the same number.
-use Rattle.std.specs.Prelude.{ℕ, ◌<◌, ◌≡◌, cond, eqb, ltb}
+use Rattle.std.specs.Prelude.{ℕ, ◌<◌, ◌≡◌, cond, eqb, ltb, Option, Some, None}
 use Rattle.bus.specs.declared.command.Register.{Register}
 use Rattle.bus.specs.declared.command.Register.TheVariants.{
   Backlight,
@@ -23,31 +23,27 @@ use Rattle.bus.specs.declared.command.Ways.TheVariants.{ReadWrite, ReadOnly}
 use Rattle.bus.specs.declared.command.ModeRight.{ModeRight}
 use Rattle.bus.specs.declared.command.ModeRight.TheVariants.{Always, MasterOn, CalibrationOnly}
 use Rattle.bus.specs.declared.command.CommandRow.{CommandRow}
-use Rattle.bus.specs.declared.command.Lookup.{Lookup}
-use Rattle.bus.specs.declared.command.Lookup.TheVariants.{Found, Unknown}
 use Rattle.bus.specs.Commands.{command_row, lookup}
-use Rattle.lookup_bench.specs.declared.by_match.Matched.{Matched}
-use Rattle.lookup_bench.specs.declared.by_match.Matched.TheVariants.{Known, Nothing}
 use Rattle.lookup_bench.specs.Answer.{answer}
 
-unfoldable pub match_id : ℕ → Matched
+unfoldable pub match_id : ℕ → Option Register
 match_id id =
-    cond (eqb id 0x00) (Known Backlight)
-    (cond (eqb id 0x01) (Known Master)
-    (cond (eqb id 0x02) (Known Park)
-    (cond (eqb id 0x25) (Known Splash)
-    (cond (eqb id 0x26) (Known Strength)
-    (cond (eqb id 0x27) (Known Heater)
-    (cond (eqb id 0x28) (Known Bezel)
-    (cond (eqb id 0x33) (Known Status)
-    (cond (eqb id 0x53) (Known Pixels)
-    (cond (eqb id 0x64) (Known CalibrationMode)
-    (cond (eqb id 0x65) (Known RedLevel)
-    (cond (eqb id 0x66) (Known GreenLevel)
-    (cond (eqb id 0x67) (Known BlueLevel)
-    (cond (eqb id 0x68) (Known CurrentLimit)
-    (cond (eqb id 0x69) (Known SensorGain)
-    Nothing))))))))))))))
+    cond (eqb id 0x00) (Some Backlight)
+    (cond (eqb id 0x01) (Some Master)
+    (cond (eqb id 0x02) (Some Park)
+    (cond (eqb id 0x25) (Some Splash)
+    (cond (eqb id 0x26) (Some Strength)
+    (cond (eqb id 0x27) (Some Heater)
+    (cond (eqb id 0x28) (Some Bezel)
+    (cond (eqb id 0x33) (Some Status)
+    (cond (eqb id 0x53) (Some Pixels)
+    (cond (eqb id 0x64) (Some CalibrationMode)
+    (cond (eqb id 0x65) (Some RedLevel)
+    (cond (eqb id 0x66) (Some GreenLevel)
+    (cond (eqb id 0x67) (Some BlueLevel)
+    (cond (eqb id 0x68) (Some CurrentLimit)
+    (cond (eqb id 0x69) (Some SensorGain)
+    None))))))))))))))
 
 abbrev pub data_count : Register → ℕ
 data_count Backlight = 2
@@ -75,9 +71,9 @@ right id = cond (eqb id 0x01) Always (cond (ltb id 0x65) MasterOn CalibrationOnl
 abbrev pub row : ℕ → Register → CommandRow
 row id r = command_row id r (ways id) (data_count r) (right id)
 
-abbrev pub row_matched : ℕ → Matched → Lookup
-row_matched id (Known r) = Found (row id r)
-row_matched id Nothing = Unknown
+abbrev pub row_matched : ℕ → Option Register → Option CommandRow
+row_matched id (Some r) = Some (row id r)
+row_matched id None = None
 
 -- at every ID of a command byte it gives the number that the table gives
 abbrev pub MatchAlike : Type 0

@@ -1,11 +1,12 @@
-// A row in one number.
-ghost use Rattle.std.specs.Prelude.{◌≡◌};
+// A row in one number, as the C interface has it: its codes stand here, not in the enums.
+ghost use Rattle.std.specs.Prelude.{◌≡◌, ◌≤◌};
 ghost use Rattle.lookup_bench.specs.Answer as spec;
 
 use bus::{CommandRow, ModeRight, Register, Ways};
 
 fn register_code(register: Register) -> u32
-    ensures { result ≡ spec.register_code register }
+    ensures code { result ≡ spec.register_code register }
+    ensures small { result ≤ 0xE00 }
 {
     match register {
         Register::Backlight => 0x000,
@@ -27,7 +28,8 @@ fn register_code(register: Register) -> u32
 }
 
 fn ways_code(ways: Ways) -> u32
-    ensures { result ≡ spec.ways_code ways }
+    ensures code { result ≡ spec.ways_code ways }
+    ensures small { result ≤ 0x1000 }
 {
     match ways {
         Ways::ReadWrite => 0x1000,
@@ -36,7 +38,8 @@ fn ways_code(ways: Ways) -> u32
 }
 
 fn right_code(right: ModeRight) -> u32
-    ensures { result ≡ spec.right_code right }
+    ensures code { result ≡ spec.right_code right }
+    ensures small { result ≤ 0x4000 }
 {
     match right {
         ModeRight::Always => 0x2000,
@@ -48,8 +51,5 @@ fn right_code(right: ModeRight) -> u32
 pub(crate) fn row_answer(row: CommandRow) -> u32
     ensures { result ≡ spec.row_answer row }
 {
-    let register = row.register;
-    let ways = row.ways;
-    let right = row.right;
-    row.count as u32 + register_code(register) + ways_code(ways) + right_code(right)
+    row.count as u32 + register_code(row.register) + ways_code(row.ways) + right_code(row.right)
 }

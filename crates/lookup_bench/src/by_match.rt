@@ -7,32 +7,27 @@ ghost use Rattle.lookup_bench.specs.ByMatch as spec;
 use crate::answer::row_answer;
 use bus::{CommandRow, ModeRight, Register, Ways};
 
-#[derive(Clone, Copy)]
-pub(crate) enum Matched {
-    Known(Register),
-    Nothing,
-}
-
-fn match_id(id: u8) -> Matched
+#[tactic(auto, unfolding(crate::specs::ByMatch::match_id))]
+fn match_id(id: u8) -> Option<Register>
     ensures { result ≡ spec.match_id id }
 {
     match id {
-        0x00 => Matched::Known(Register::Backlight),
-        0x01 => Matched::Known(Register::Master),
-        0x02 => Matched::Known(Register::Park),
-        0x25 => Matched::Known(Register::Splash),
-        0x26 => Matched::Known(Register::Strength),
-        0x27 => Matched::Known(Register::Heater),
-        0x28 => Matched::Known(Register::Bezel),
-        0x33 => Matched::Known(Register::Status),
-        0x53 => Matched::Known(Register::Pixels),
-        0x64 => Matched::Known(Register::CalibrationMode),
-        0x65 => Matched::Known(Register::RedLevel),
-        0x66 => Matched::Known(Register::GreenLevel),
-        0x67 => Matched::Known(Register::BlueLevel),
-        0x68 => Matched::Known(Register::CurrentLimit),
-        0x69 => Matched::Known(Register::SensorGain),
-        _ => Matched::Nothing,
+        0x00 => Some(Register::Backlight),
+        0x01 => Some(Register::Master),
+        0x02 => Some(Register::Park),
+        0x25 => Some(Register::Splash),
+        0x26 => Some(Register::Strength),
+        0x27 => Some(Register::Heater),
+        0x28 => Some(Register::Bezel),
+        0x33 => Some(Register::Status),
+        0x53 => Some(Register::Pixels),
+        0x64 => Some(Register::CalibrationMode),
+        0x65 => Some(Register::RedLevel),
+        0x66 => Some(Register::GreenLevel),
+        0x67 => Some(Register::BlueLevel),
+        0x68 => Some(Register::CurrentLimit),
+        0x69 => Some(Register::SensorGain),
+        _ => None,
     }
 }
 
@@ -62,21 +57,22 @@ fn ways(id: u8) -> Ways
     ensures { result ≡ spec.ways id }
 {
     if id == 0x33 {
-        return Ways::ReadOnly;
+        Ways::ReadOnly
+    } else {
+        Ways::ReadWrite
     }
-    Ways::ReadWrite
 }
 
 fn right(id: u8) -> ModeRight
     ensures { result ≡ spec.right id }
 {
     if id == 0x01 {
-        return ModeRight::Always;
+        ModeRight::Always
+    } else if id < 0x65 {
+        ModeRight::MasterOn
+    } else {
+        ModeRight::CalibrationOnly
     }
-    if id < 0x65 {
-        return ModeRight::MasterOn;
-    }
-    ModeRight::CalibrationOnly
 }
 
 fn row(id: u8, register: Register) -> CommandRow
@@ -96,9 +92,8 @@ pub extern "C" fn puoskenda_lookup_by_match(command: u8) -> u32
     ensures { result ≡ answer (lookup (command / 2)) }
 {
     let id = command / 2;
-    let matched = match_id(id);
-    match matched {
-        Matched::Known(register) => row_answer(row(id, register)),
-        Matched::Nothing => 0,
+    match match_id(id) {
+        Some(register) => row_answer(row(id, register)),
+        None => 0,
     }
 }

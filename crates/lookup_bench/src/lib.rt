@@ -10,7 +10,6 @@ ghost use Rattle.bus.specs.Commands.{lookup};
 ghost use Rattle.lookup_bench.specs.Answer as spec;
 
 use crate::answer::row_answer;
-use bus::Lookup;
 pub use by_match::puoskenda_lookup_by_match;
 use command_table::lookup_command;
 
@@ -18,9 +17,8 @@ use command_table::lookup_command;
 pub extern "C" fn puoskenda_lookup(command: u8) -> u32
     ensures { result ≡ spec.answer (lookup (command / 2)) }
 {
-    let found = lookup_command(command);
-    match found {
-        Lookup::Found(row) => row_answer(row),
-        Lookup::Unknown => 0,
+    match lookup_command(command) {
+        Some(row) => row_answer(row),
+        None => 0,
     }
 }

@@ -4,5 +4,5 @@
 mod answer;
 mod state;
 
-pub use answer::{Answered, send};
+pub use answer::send;
 pub use state::progress;

@@ -7,18 +7,9 @@ use session::{Office, Progress, Stage};
 pub fn progress(office: Office) -> Progress
     ensures { result ≡ spec.progress office }
 {
-    let stage = office.stage;
-    match stage {
-        Stage::Unopened => Progress::Waiting,
-        Stage::Awaiting => Progress::Waiting,
-        Stage::Live => {
-            let confirmed = office.confirmed.0;
-            let issued = office.issued.0;
-            if confirmed == issued {
-                return Progress::Settled;
-            }
-            Progress::Waiting
-        }
+    match office.stage {
+        Stage::Live if office.confirmed == office.issued => Progress::Settled,
+        Stage::Unopened | Stage::Awaiting | Stage::Live => Progress::Waiting,
         Stage::Ended => Progress::Over,
     }
 }

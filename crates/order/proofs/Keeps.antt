@@ -1,8 +1,5 @@
 -- A valid change: its data fits a packet, the controller as written obeys it, and settings that a controller could hold stay so.
-use Prim.Native.Nat.{ℕ, ◌<◌, ◌≤◌}
-use native.Mathlib.Omega.{arith}
-use mathlib.Core.List.{List, []}
-use lib.ListN.{length}
+use Rattle.std.proofs.Common.{ℕ, ◌<◌, ◌≤◌, List, [], length, arith}
 use Rattle.packet.specs.Packet.{data_most}
 use Rattle.frame.specs.declared.frame.Ask.{Ask}
 use Rattle.frame.specs.declared.frame.Ask.TheVariants.{Command, Raise, Lower}

@@ -1,10 +1,7 @@
--- Laws for the proofs of this crate, and for the box: its order is obeyed.
-use Prim.Native.Nat.{ℕ, ◌-◌, ◌≤◌}
-use mathlib.Core.Path.{◌≡◌}
-use mathlib.Core.List.{List}
-use native.Mathlib.Omega.{arith}
-use lib.ListN.{length, length-take, replicate}
-use Rattle.packet.specs.Packet.{data_most, packet_of}
+-- An escape found, and for the box: its order is obeyed.
+use Rattle.std.proofs.Common.{ℕ, ◌-◌, ◌≤◌, ◌≡◌, refl, List, [], ◌∷◌, length, replicate, eqb, arith}
+use Rattle.std.specs.List.{list_any}
+use Rattle.packet.specs.Packet.{data_most, has_escape, packet_of}
 use Rattle.bus.specs.declared.Controller.{Controller}
 use Rattle.bus.specs.Commands.{perform}
 use Rattle.bus.specs.Bus.{waiting, opening, noted}
@@ -12,13 +9,13 @@ use Rattle.bus.specs.Run.{run, Ready}
 use Rattle.bus.proofs.RunLaws.{run_append}
 use Rattle.bus.proofs.ReadsBack.{reads_back_command}
 use Rattle.bus.proofs.Settles.{settles_command}
-use Rattle.frame.specs.Frame.{data_limit}
-use Rattle.order.specs.declared.change.Resolved.{Resolved}
-use Rattle.order.specs.Apply.{change_command, change_data, apply, resolved_data}
+use Rattle.order.specs.Apply.{change_command, change_data, apply}
 use Rattle.order.specs.Theorems.{Obeys}
 
-pub resolved_short : (r : Resolved) → r.count ≤ data_limit → length (resolved_data r) ≤ data_most
-resolved_short r short = rw length-take (omega arith)
+pub any_escape : (l : List ℕ) → list_any (λ (b : ℕ). eqb b 0x5A) l ≡ has_escape l
+unfolding has_escape
+any_escape [] = refl
+any_escape (b ∷ l) = rw (any_escape l)
 
 -- with the packet in and the whole reply out the controller is ready again, and the command is performed
 obeys_command : (c : Controller) (k : ℕ) (d : List ℕ) → Ready c → length d ≤ data_most →

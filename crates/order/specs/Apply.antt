@@ -1,14 +1,11 @@
 -- What an order does to the settings: document 01, "The adjustment link".
-use Rattle.std.specs.Prelude.{ℕ, ◌+◌, ◌-◌, ◌≤◌, min, ◌≡◌, List, take, replicate}
+use Rattle.std.specs.Prelude.{ℕ, ◌+◌, ◌-◌, min, ◌≡◌, List}
 use Rattle.number.specs.Number.{le16_bytes}
 use Rattle.packet.specs.Packet.{packet_of}
-use Rattle.packet.specs.Writer.{built}
-use Rattle.packet.specs.declared.builder.Packet.{Packet}
-use Rattle.base.specs.Lent.{overwritten}
 use Rattle.settings.specs.declared.settings.Settings.{Settings}
 use Rattle.bus.specs.Commands.{perform}
 use Rattle.bus.specs.Bus.{noted}
-use Rattle.frame.specs.Frame.{data_limit, Change, command, raise, lower}
+use Rattle.frame.specs.Frame.{Change, command, raise, lower}
 use Rattle.order.specs.declared.change.Resolved.{Resolved}
 
 -- a change's command byte and data: raise and lower are writes of the backlight, register 00h, stopped at either end
@@ -31,19 +28,9 @@ unfoldable pub apply : Settings → Change → Settings
 apply σ change =
     (perform (noted σ (order_packet σ.backlight change)) (change_command change) (change_data σ.backlight change)).settings
 
--- ---- the code's structs
-
-abbrev pub level_write : ℕ → Resolved
-level_write level = record { command = 0x00; count = 2; body = overwritten (le16_bytes level) (replicate data_limit 0) }
-
-abbrev pub resolved_data : Resolved → List ℕ
-resolved_data r = take r.count r.body
+-- ---- the code's struct
 
 -- a command and data that a change comes to
 pub record Resolves (level : ℕ) (change : Change) (r : Resolved) : Type 0 where
   pub command_is : r.command ≡ change_command change
-  pub data_is : resolved_data r ≡ change_data level change
-  pub short : r.count ≤ data_limit
-
-abbrev pub packet_for : Resolved → Packet
-packet_for r = built (packet_of r.command (resolved_data r))
+  pub data_is : r.body.items ≡ change_data level change

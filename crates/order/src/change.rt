@@ -1,84 +1,61 @@
 // A change as a command, and its packet.
-ghost use Rattle.std.specs.Prelude.{◌≡◌, ◌+◌, ◌-◌, ◌≤◌, min};
-ghost use Rattle.packet.specs.Writer.{built};
-ghost use Rattle.frame.specs.Frame.{data_limit};
+ghost use Rattle.std.specs.Prelude.{◌≡◌};
+ghost use Rattle.number.specs.Number.{le16_bytes};
+ghost use Rattle.packet.specs.Packet.{packet_of};
 ghost use Rattle.frame.specs.View.{asked};
 ghost use Rattle.order.specs.Apply as spec;
 
+use arrayvec::ArrayVec;
 use frame::{Ask, Change, DATA_LIMIT};
 use number::{high, low};
 use packet::{Packet, build};
 
-// A command and its data, the first count bytes of body.
-#[derive(Clone, Copy)]
+// The command that a change comes to.
+#[derive(Drop)]
 pub struct Resolved {
     pub command: u8,
-    pub count: usize,
-    pub body: [u8; DATA_LIMIT],
-}
-
-fn raised(level: u16, step: u16) -> u16
-    ensures { result ≡ min (level + step) 65535 }
-{
-    if step <= 65535 - level {
-        return level + step;
-    }
-    65535
-}
-
-fn lowered(level: u16, step: u16) -> u16
-    ensures { result ≡ level - step }
-{
-    if step <= level {
-        return level - step;
-    }
-    0
+    pub body: ArrayVec<u8, DATA_LIMIT>,
 }
 
 fn level_write(level: u16) -> Resolved
-    ensures { result ≡ spec.level_write level }
+    ensures command { result.command ≡ 0x00 }
+    ensures body { result.body.items ≡ le16_bytes level }
 {
-    let mut body = [0; DATA_LIMIT];
-    body[0] = low(level);
-    body[1] = high(level);
+    let mut body = ArrayVec::new();
+    body.push(low(level));
+    body.push(high(level));
     Resolved {
         command: 0x00,
-        count: 2,
         body,
     }
 }
 
-// The command that a change comes to at this backlight level.
+// What a change comes to at this backlight level.
 pub(crate) fn resolve(level: u16, change: Change) -> Resolved
     ensures { spec.Resolves level (asked change) result }
 {
-    let ask = change.ask;
-    match ask {
+    match change.ask {
         Ask::Command(command) => {
-            let body = change.body;
-            Resolved {
-                command,
-                count: change.data_length(),
-                body,
-            }
+            let mut body = ArrayVec::from(change.body);
+            body.truncate(change.data_length());
+            Resolved { command, body }
         }
-        Ask::Raise(step) => level_write(raised(level, step)),
-        Ask::Lower(step) => level_write(lowered(level, step)),
+        Ask::Raise(step) => level_write(level.saturating_add(step)),
+        Ask::Lower(step) => level_write(level.saturating_sub(step)),
     }
 }
 
-pub(crate) fn packet_of(resolved: Resolved) -> Packet
-    requires { resolved.count ≤ data_limit }
-    ensures { result ≡ spec.packet_for resolved }
-{
-    let body = resolved.body;
-    let count = resolved.count;
-    build(resolved.command, &body[..count])
+impl Resolved {
+    pub(crate) fn packet(&self) -> Packet
+        ensures { result.items ≡ packet_of self.now.command self.now.body.items }
+    {
+        build(self.command, self.body.as_slice())
+    }
 }
 
 // The packet that the box sends for a change at this backlight level.
 pub fn order_packet(level: u16, change: Change) -> Packet
-    ensures { result ≡ built (spec.order_packet level (asked change)) }
+    ensures { result.items ≡ spec.order_packet level (asked change) }
 {
-    packet_of(resolve(level, change))
+    resolve(level, change).packet()
 }

@@ -1,4 +1,3 @@
-pub mod Answering
 pub mod Judging
 pub mod Lengths
 pub mod OneMore

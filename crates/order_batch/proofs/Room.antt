@@ -1,28 +1,32 @@
 -- An output that has room for the frames of a whole batch is as good as any longer one.
 use Prim.Native.Nat.{ℕ, suc, ◌+◌, ◌-◌, ◌*◌, ◌≤◌, min}
 use native.Mathlib.Omega.{arith}
-use mathlib.Core.Path.{◌≡◌, refl, ap, ◌∙◌}
+use mathlib.Core.Path.{◌≡◌, refl, sym, subst, ap, ◌∙◌}
 use mathlib.Core.Bool.{Bool, true, false}
-use mathlib.Core.List.{List, [], ◌∷◌, foldl}
+use mathlib.Core.List.{List, [], ◌∷◌, ◌++◌, foldl}
 use mathlib.Core.Option.{Option, none, some}
-use lib.ListN.{length, length-append}
-use lib.Seq.{length-take-le}
+use lib.ListN.{length, take, length-append}
+use lib.Seq.{sets, length-take-le, take-append-le}
+use Rattle.std.specs.Prelude.{Result, Ok, Err}
 use lib.Dec.{ltb}
 use borrow.Author.Tests.{ltb-true, ltb-false, lt-ltb, le-ltb}
-use Rattle.base.specs.Refusal.{Told}
+use Rattle.base.proofs.Lists.{sets_front}
+use Rattle.base.specs.Refusal.{Told, told}
+use Rattle.base.specs.declared.refusal.Refusal.{Refusal}
 use Rattle.frame.specs.Frame.{Change, order}
 use Rattle.link.specs.View.{frame_limit}
 use Rattle.link.proofs.FrameLaws.{encode_length}
 use Rattle.outcome.specs.declared.BatchOrder.{BatchOrder}
-use Rattle.outcome.specs.declared.OrderBatch.{OrderBatch}
 use Rattle.outcome.specs.Turn.{Turn, bytes_written}
-use Rattle.outcome.specs.Batch.{changes, Outcome, begun, part_of, bytes_of_parts}
+use Rattle.outcome.specs.Batch.{batch_limit, changes, Outcome, begun, part_of, bytes_of_parts, no_parts, GivesParts, refused_answer}
+use Rattle.outcome.proofs.Wholes.{gives_refused}
 use Rattle.outcome.proofs.PartsLaws.{bytes_one_more}
 use Rattle.session.specs.declared.Office.{Office}
-use Rattle.session.specs.Office.{with_order, issue_refusal, issue, extended_unless, issue_unless_refused, issue_next}
-use Rattle.office.proofs.Turns.{Decided, no, yes}
+use Rattle.session.specs.Office.{with_order, issue_refusal, issue, extended_unless, issue_unless_refused, issue_next, all_or_none, issue_each}
+use Rattle.office.proofs.Decided.{Decided, no, yes}
 use Rattle.issuing.proofs.IssueLaws.{Issuable, issue_decided}
-use Rattle.order_batch.specs.View.{frames_limit, Fitting, told_orders, all_issued}
+use Rattle.order_batch.specs.declared.Issued.{Issued}
+use Rattle.order_batch.specs.View.{frames_limit, Fitting, Holds, Leads, AllGo}
 
 -- ---- one order
 
@@ -82,8 +86,54 @@ length_changes : (orders : List BatchOrder) (bytes : List ℕ) → length (chang
 length_changes [] bytes = refl
 length_changes (o ∷ orders) bytes = ap suc (length_changes orders _)
 
-pub batch_alike : (o : Office) (b : OrderBatch) (bytes : List ℕ) (room : ℕ) → Fitting b bytes →
-    all_issued o (changes (told_orders b) bytes) (min room frames_limit) ≡ all_issued o (changes (told_orders b) bytes) room
-batch_alike o b bytes room fitting =
-    let told = length-take-le b.count b.orders (omega (arith, fitting.few, fitting.all)) in
-    all_alike room (begun o) (changes (told_orders b) bytes) (omega (arith, fitting.few, told, length_changes (told_orders b) bytes))
+pub batch_alike : (o : Office) (orders : List BatchOrder) (bytes : List ℕ) (room : ℕ) → length orders ≤ batch_limit →
+    foldl (issue_next (min room frames_limit)) (begun o) (changes orders bytes) ≡ foldl (issue_next room) (begun o) (changes orders bytes)
+batch_alike o orders bytes room few = all_alike room (begun o) (changes orders bytes) (omega (arith, length_changes orders bytes))
+
+-- ---- all or none of its frames
+
+abbrev all_issued : Office → List BatchOrder → List ℕ → ℕ → Outcome Office
+all_issued o orders bytes room = foldl (issue_next room) (begun o) (changes orders bytes)
+
+abbrev none_issued : Office → Issued
+none_issued o = record { office = o; parts = no_parts; used = 0; written = 0 }
+
+module _ (o : Office) (orders : List BatchOrder) (bytes out : List ℕ) (fitting : Fitting orders bytes) where
+  -- what orders lead to that were lent no more of a buffer than there is room in the output
+  led : (s : Issued) (buffer part : List ℕ) (limit : ℕ) (r : Result Unit Refusal) → limit ≡ min (length out) frames_limit → length buffer ≡ frames_limit →
+      AllGo (none_issued o) orders bytes r s (take limit buffer) part → Leads (all_issued o orders bytes (length out)) r s part
+  led s buffer part limit r cut long go =
+      let room : length (take limit buffer) ≡ min (length out) frames_limit = length-take-le limit buffer (omega arith) ∙ cut in
+      let none_yet : Holds (begun o) (none_issued o) (take limit buffer) =
+      record { going = refl; state_is = refl; count_is = refl; parts_are = refl; within = omega arith; bytes_are = refl } in
+      rw (← batch_alike o orders bytes (length out) fitting.few, ← room) (go (begun o) (omega (arith, fitting.few)) none_yet)
+
+  pub gives_all : (s : Issued) (buffer part rest : List ℕ) (limit : ℕ) (u : Unit) → limit ≡ min (length out) frames_limit → length buffer ≡ frames_limit →
+      length part ≡ length (take limit buffer) → AllGo (none_issued o) orders bytes (Ok u) s (take limit buffer) part →
+      GivesParts (issue_each o (changes orders bytes) (length out)) (record { state = s.office; parts = Ok s.parts }) out
+      (sets out 0 (take s.written (part ++ rest)))
+  unfolding issue_each
+  gives_all s buffer part rest limit u cut long same go =
+      let t = all_issued o orders bytes (length out) in
+      let h : Holds t s part = led s buffer part limit (Ok u) cut long go in
+      let written : take s.written (part ++ rest) ≡ bytes_of_parts t.parts = take-append-le s.written part rest h.within ∙ h.bytes_are in
+      let room : length (bytes_of_parts t.parts) ≤ length out =
+      omega (arith, h.within, cut, ap length h.bytes_are, length-take-le s.written part h.within, length-take-le limit buffer (omega (arith, cut, long))) in
+      subst (λ (x : Option Told). GivesParts (all_or_none x o t) (record { state = s.office; parts = Ok s.parts }) out (sets out 0 (take s.written (part ++ rest))))
+      (sym h.going)
+      (record {
+        state_is = h.state_is;
+        refusal_is = sym h.going;
+        count_is = h.count_is;
+        parts_are = h.parts_are;
+        output_is = rw written (sets_front (bytes_of_parts t.parts) out room);
+      })
+
+  pub gives_none : (s : Issued) (buffer part : List ℕ) (limit : ℕ) (why : Refusal) → limit ≡ min (length out) frames_limit → length buffer ≡ frames_limit →
+      AllGo (none_issued o) orders bytes (Err why) s (take limit buffer) part → GivesParts (issue_each o (changes orders bytes) (length out)) (refused_answer o why) out out
+  unfolding issue_each
+  gives_none s buffer part limit why cut long go =
+      let t = all_issued o orders bytes (length out) in
+      let over : t.refusal ≡ some (told why) = led s buffer part limit (Err why) cut long go in
+      subst (λ (x : Option Told). GivesParts (all_or_none x o t) (refused_answer o why) out out) (sym over)
+      (gives_refused o why out)

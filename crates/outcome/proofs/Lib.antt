@@ -1,2 +1,4 @@
 pub mod PartsLaws
 pub mod Cutting
+pub mod Rooms
+pub mod Wholes

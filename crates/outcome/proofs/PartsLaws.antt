@@ -1,12 +1,13 @@
 -- Laws of batches: lengths that sum to a total, one part more, and one answer more behind the earlier ones.
-use Prim.Native.Nat.{ℕ, zero, suc, ◌+◌, ◌-◌, ◌<◌, ◌≤◌}
+use Prim.Native.Nat.{ℕ, suc, ◌+◌, ◌-◌, ◌<◌, ◌≤◌}
 use native.Mathlib.Omega.{arith}
 use native.Mathlib.Numerals.{add-one}
-use mathlib.Core.Path.{◌≡◌, refl, sym, ap, ◌∙◌}
+use mathlib.Core.Path.{◌≡◌, refl, sym, ◌∙◌}
 use mathlib.Core.Bool.{Bool, true, false, false≢true}
 use mathlib.Core.List.{List, [], ◌∷◌, ◌++◌, map, append_assoc, append-nil, map-append}
 use lib.ListN.{length, get_or, take, drop, set, replicate, length-append, length-map, drop_of_length-le}
 use lib.Seq.{drop-cons, drop-drop, take-append_seam, drop-append_seam, set_at, append_snoc}
+use Rattle.std.proofs.lemmas.List.{map-set}
 use lib.Dec.{eqb, leb}
 use borrow.Author.Tests.{lt-ltb, le-leb, lt-leb, leb-true, leb-false}
 use Rattle.base.specs.Lent.{overwritten}
@@ -50,11 +51,6 @@ pub record Tells (told : Parts) (parts : List Part) : Type 0 where
 pub none_tells : Tells no_parts []
 none_tells = record { count_is = refl; parts_are = refl }
 
-map_set : {A B : Type 0} (f : A → B) (l : List A) (i : ℕ) (a : A) → map f (set l i a) ≡ set (map f l) i (f a)
-map_set f [] i a = refl
-map_set f (x ∷ l) zero a = refl
-map_set {A} {B} f (x ∷ l) (suc i) a = ap (λ (m : List B). f x ∷ m) (map_set f l i a)
-
 replicate_next : {A : Type 0} (n m : ℕ) (a : A) → m ≡ suc n → replicate m a ≡ a ∷ replicate n a
 replicate_next n m a e = rw e
 
@@ -73,7 +69,7 @@ with_part_tells told parts x next tells room e =
     rw (lt-ltb told.count batch_limit (omega arith))
     (record {
       count_is = rw tells.count_is (sym (length-append parts (next ∷ [])));
-      parts_are = rw (map_set reported told.each told.count x, tells.parts_are, tells.count_is, e) (reports_more parts next room);
+      parts_are = rw (map-set reported told.each told.count x, tells.parts_are, tells.count_is, e) (reports_more parts next room);
     })
 
 -- ---- answers, one behind another

@@ -1,16 +1,15 @@
 -- What a call at either end gives that may have several parts: a batch of orders at the office, a run of frames at the box (document 02, Ask 3).
 -- What is lent to them is told here too; their rules stand in Office.antt, Box.antt and History.antt.
-use Rattle.std.specs.Prelude.{ℕ, ◌+◌, ◌-◌, ◌≡◌, Bool, false, cond, List, [], ◌∷◌, ◌++◌, map, length, take, drop, set, replicate, eqb, leb, ltb}
+use Rattle.std.specs.Prelude.{ℕ, ◌+◌, ◌-◌, ◌≡◌, Bool, false, cond, List, [], ◌∷◌, ◌++◌, map, length, take, drop, set, replicate, eqb, leb, ltb, Result, Ok, Err}
 use Rattle.std.proofs.Math.Option.{Option, none, some}
 use Rattle.base.specs.Lent.{overwritten}
 use Rattle.base.specs.Refusal.{Told}
+use Rattle.base.specs.declared.refusal.Refusal.{Refusal}
 use Rattle.frame.specs.Frame.{Change, Frame}
 use Rattle.frame.specs.View.{asked_as, refusal_of}
-use Rattle.frame.specs.declared.frame.Ask.TheVariants.{Raise}
-use Rattle.frame.specs.declared.verdict.Verdict.TheVariants.{Accepted}
 use Rattle.link.specs.View.{encoding_of}
 use Rattle.outcome.specs.declared.BatchOrder.{BatchOrder}
-use Rattle.outcome.specs.declared.OrderBatch.{OrderBatch}
+use Rattle.outcome.specs.declared.BatchAnswered.{BatchAnswered}
 use Rattle.outcome.specs.declared.Part.{Part as PartStruct}
 use Rattle.outcome.specs.declared.Parts.{Parts}
 use Rattle.outcome.specs.Turn.{Turn}
@@ -33,10 +32,6 @@ data_lengths orders = map (λ o. o.len) orders
 abbrev pub changes : List BatchOrder → List ℕ → List Change
 changes [] bytes = []
 changes (o ∷ orders) bytes = asked_as o.ask (take o.len bytes) ∷ changes orders (drop o.len bytes)
-
--- the orders of a batch as the code has it: of more than fit, only how many there are
-abbrev pub orders_of : OrderBatch → List BatchOrder
-orders_of b = take b.count b.orders ++ replicate (b.count - batch_limit) (record { ask = Raise 0; len = 0 })
 
 -- The ends' test of lengths, as the code makes it: each is taken from what the earlier ones left, and nothing is left at the end. The history makes the sum.
 unfoldable pub fits : List ℕ → ℕ → Bool
@@ -101,16 +96,24 @@ abbrev pub reports : List Part → List Report
 reports parts = map report parts ++ replicate (batch_limit - length parts) no_report
 
 abbrev pub no_parts : Parts
-no_parts = record { count = 0; each = replicate batch_limit (record { verdict = Accepted; len = 0 }) }
+no_parts = record { count = 0; each = replicate batch_limit (record { verdict = Ok tt; len = 0 }) }
+
+-- of a call refused as a whole none is told
+abbrev pub parts_told : Result Parts Refusal → Parts
+parts_told (Ok parts) = parts
+parts_told (Err why) = no_parts
 
 -- past the last place none is told
 unfoldable pub with_part : Parts → PartStruct → Parts
 with_part p part = cond (ltb p.count batch_limit) (record { count = p.count + 1; each = set p.each p.count part }) p
 
--- what a call of the code returned, and made of its lent output, is what the outcome says
-pub record Performs {A : Type 0} (t : Outcome A) (state : A) (refusal : Option Told) (parts : Parts) (before after : List ℕ) : Type 0 where
-  pub state_is : state ≡ t.state
-  pub refusal_is : refusal ≡ t.refusal
-  pub count_is : parts.count ≡ length t.parts
-  pub parts_are : map reported parts.each ≡ reports t.parts
+-- The outcome fixes what a call of the code returned, and what it made of its lent output: the state, what a refusal tells, every part and every byte.
+pub record GivesParts {A : Type 0} (t : Outcome A) (r : BatchAnswered A) (before after : List ℕ) : Type 0 where
+  pub state_is : r.state ≡ t.state
+  pub refusal_is : refusal_of r.parts ≡ t.refusal
+  pub count_is : (parts_told r.parts).count ≡ length t.parts
+  pub parts_are : map reported (parts_told r.parts).each ≡ reports t.parts
   pub output_is : after ≡ overwritten (bytes_of_parts t.parts) before
+
+abbrev pub refused_answer : {A : Type 0} → A → Refusal → BatchAnswered A
+refused_answer a r = record { state = a; parts = Err r }

@@ -1,9 +1,12 @@
 -- What a call at either end gives.
-use Rattle.std.specs.Prelude.{ℕ, ◌≡◌, List, length}
+use Rattle.std.specs.Prelude.{ℕ, ◌≡◌, List, length, Err}
 use Rattle.std.proofs.Math.Option.{Option, none, some}
 use Rattle.base.specs.Lent.{overwritten}
 use Rattle.base.specs.Refusal.{Fault, Told, plain, faulty, number_told}
+use Rattle.base.specs.declared.refusal.Refusal.{Refusal}
 use Rattle.frame.specs.Frame.{Frame, refuse}
+use Rattle.frame.specs.View.{refusal_of}
+use Rattle.outcome.specs.declared.Answered.{Answered}
 use Rattle.link.specs.View.{encoding_of}
 
 -- the state afterwards, what a refusal tells if there is one, and the frame written if there is one
@@ -40,9 +43,12 @@ faulted_by a f = refuses a 0 (faulty f)
 abbrev pub bytes_written : {A : Type 0} → Turn A → List ℕ
 bytes_written t = encoding_of t.frame
 
--- what a call of the code returned, and made of its lent output, is what the turn says
-pub record Realises {A : Type 0} (t : Turn A) (state : A) (refusal : Option Told) (len : ℕ) (before after : List ℕ) : Type 0 where
-  pub state_is : state ≡ t.state
-  pub refusal_is : refusal ≡ t.refusal
-  pub length_is : len ≡ length (bytes_written t)
+-- The turn fixes what a call of the code returned, and what it made of its lent output: the state, what a refusal tells, the length and every byte.
+pub record Gives {A : Type 0} (t : Turn A) (r : Answered A) (before after : List ℕ) : Type 0 where
+  pub state_is : r.state ≡ t.state
+  pub refusal_is : refusal_of r.verdict ≡ t.refusal
+  pub length_is : r.len ≡ length (bytes_written t)
   pub output_is : after ≡ overwritten (bytes_written t) before
+
+abbrev pub refused_answer : {A : Type 0} → A → Refusal → Answered A
+refused_answer a r = record { state = a; verdict = Err r; len = 0 }

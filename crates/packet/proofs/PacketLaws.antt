@@ -1,15 +1,17 @@
 -- Theorems on the packet's definition.
-use mathlib.Core.Path.{◌≡◌, refl, sym}
+use mathlib.Core.Path.{◌≡◌, sym}
 use mathlib.Core.List.{List, [], ◌∷◌, ◌++◌, append_assoc, append-nil}
 use Prim.Native.Nat.{ℕ, suc, ◌+◌, ◌%◌, ◌<◌, ◌≤◌}
 use native.Mathlib.Nat.{zero-add, add-zero, add_assoc, mod-add-mod}
 use native.Mathlib.Omega.{arith}
-use lib.ListN.{length, length-append}
+use lib.ListN.{length, get_or, take, length-append}
+use Rattle.std.proofs.lemmas.List.{take_more}
+use Rattle.std.proofs.lemmas.List.Concat.{flat_map-append}
 use lib.Dec.{eqb}
 use borrow.Author.Tests.{eq-eqb, ne_eqb}
 use Rattle.base.specs.Bytes.{Bytes}
 use Rattle.base.proofs.ByteLaws.{bytes_cons, bytes_each, bytes_append}
-use Rattle.base.proofs.Tests.{cond_cases}
+use Rattle.std.proofs.lemmas.Bool.{cond_both}
 use Rattle.packet.specs.Packet.{data_most, total, checksum, escape_byte, escape, fields, packet_of}
 
 -- the checksum and the escapes, over a list that grows at its end
@@ -23,10 +25,9 @@ pub checksum_snoc : (xs : List ℕ) (b : ℕ) → checksum (xs ++ b ∷ []) ≡ 
 unfolding checksum total
 checksum_snoc xs b = rw (total_append xs (b ∷ []), mod-add-mod, add-zero)
 
-pub escape_append : (xs ys : List ℕ) → escape (xs ++ ys) ≡ escape xs ++ escape ys
-unfolding escape
-escape_append [] ys = refl
-escape_append (x ∷ xs) ys = rw (escape_append xs ys) (sym (append_assoc (escape_byte x) (escape xs) (escape ys)))
+-- one more byte of a list behind others
+pub checksum_more : (a b : ℕ) (l : List ℕ) (i : ℕ) → i < length l → checksum (a ∷ b ∷ take (i + 1) l) ≡ (checksum (a ∷ b ∷ take i l) + get_or l i 0) % 256
+checksum_more a b l i h = rw (take_more l i 0 h) (checksum_snoc (a ∷ b ∷ take i l) (get_or l i 0))
 
 -- a byte's escape, case by case
 
@@ -49,19 +50,18 @@ fields_length k n d s = simp length-append (omega arith)
 
 -- a packet is its start, and the escape of its fields
 pub fields_escape : (k n : ℕ) (d : List ℕ) (s : ℕ) → fields k n d s ≡ 0xA5 ∷ escape (k ∷ n ∷ d ++ s ∷ [])
-unfolding fields escape
-fields_escape k n d s = rw (escape_append d (s ∷ [])) (simp (append_assoc, append-nil))
+unfolding fields
+fields_escape k n d s = rw (flat_map-append escape_byte d (s ∷ [])) (simp (append_assoc, append-nil))
 
 -- ---- a packet is bytes
 
 escape_byte_bytes : (b : ℕ) → b < 256 → Bytes (escape_byte b)
 unfolding escape_byte
 escape_byte_bytes b h =
-    cond_cases Bytes (eqb b 0xA5) _ _ (λ _. bytes_each (0x5A ∷ 0x00 ∷ []) (omega arith))
-    (λ _. cond_cases Bytes (eqb b 0x5A) _ _ (λ _. bytes_each (0x5A ∷ 0x5A ∷ []) (omega arith)) (λ _. bytes_each (b ∷ []) (omega arith)))
+    cond_both (eqb b 0xA5) _ _ Bytes (λ _. bytes_each (0x5A ∷ 0x00 ∷ []) (omega arith))
+    (λ _. cond_both (eqb b 0x5A) _ _ Bytes (λ _. bytes_each (0x5A ∷ 0x5A ∷ []) (omega arith)) (λ _. bytes_each (b ∷ []) (omega arith)))
 
 escape_bytes : (bs : List ℕ) → Bytes bs → Bytes (escape bs)
-unfolding escape
 escape_bytes [] h = h
 escape_bytes (b ∷ bs) h = bytes_append (escape_byte b) (escape bs) (escape_byte_bytes b (h 0)) (escape_bytes bs (λ i. h (suc i)))
 

@@ -1,10 +1,10 @@
 -- What the packet's definition is worth: escapes come out again, only the start is 0xA5, and a packet tells its command.
 use mathlib.Core.Path.{◌≡◌, refl, sym, ap, ◌∙◌}
 use mathlib.Core.Bool.{Bool, true, false, cond}
-use mathlib.Core.List.{List, [], ◌∷◌, ◌++◌, head-eq_of_cons-eq, tail-eq_of_cons-eq}
+use mathlib.Core.List.{List, [], ◌∷◌, ◌++◌, append_assoc, head-eq_of_cons-eq, tail-eq_of_cons-eq}
 use Prim.Native.Nat.{ℕ, zero, suc, ◌+◌, ◌*◌, ◌≤◌}
 use native.Mathlib.Omega.{arith}
-use lib.ListN.{length, get_or, take, length-append}
+use lib.ListN.{length, get_or, take, length-append, length-take}
 use lib.Seq.{take_at}
 use lib.Dec.{eqb, ltb}
 use borrow.Author.Tests.{eqb-true, eqb-false, ltb-true, ltb-false}
@@ -26,7 +26,7 @@ unescape_byte b rest = by_cases (eqb b 0xA5) refl (eqb b 0x5A) refl
     by_cases false e false f = rw (escape_other b (eqb-false b 0xA5 e) (eqb-false b 0x5A f), f)
 
 pub unescape_escape : UnescapeEscape
-unfolding escape unescape_from
+unfolding unescape_from
 unescape_escape [] = refl
 unescape_escape (b ∷ bs) = unescape_byte b (escape bs) ∙ ap (λ (x : List ℕ). b ∷ x) (unescape_escape bs)
 
@@ -58,7 +58,6 @@ free_byte b = by_cases (eqb b 0xA5) refl (eqb b 0x5A) refl
     by_cases false e false f = rw (escape_other b (eqb-false b 0xA5 e) (eqb-false b 0x5A f)) (free_cons b [] (eqb-false b 0xA5 e) free_nil)
 
 free_escape : (bs : List ℕ) → StartFree (escape bs)
-unfolding escape
 free_escape [] = free_nil
 free_escape (b ∷ bs) = free_append (escape_byte b) (escape bs) (free_byte b) (free_escape bs)
 
@@ -111,9 +110,11 @@ escape_byte_short b = by_cases (eqb b 0xA5) (eqb b 0x5A)
     by_cases false false = omega arith
 
 pub escape_short : (bs : List ℕ) → length (escape bs) ≤ 2 * length bs
-unfolding escape
 escape_short [] = omega arith
 escape_short (b ∷ bs) = rw length-append (omega (arith, escape_byte_short b, escape_short bs))
+
+pub front_short : (n : ℕ) (bs : List ℕ) → n ≤ data_most → length (escape (take n bs)) ≤ 2 * data_most
+front_short n bs h = omega (arith, escape_short (take n bs), length-take n bs)
 
 count_short : (n : ℕ) → n ≤ data_most → length (escape_byte n) + 2 * n ≤ 2 * data_most + 1
 unfolding escape_byte
@@ -136,9 +137,22 @@ packet_of_short k bytes h =
       escape_byte_short s,
     )
 
+-- a packet in the parts in which it is built
+pub packet_built : (k : ℕ) (d : List ℕ) → packet_of k d ≡ 0xA5 ∷ (((escape_byte k ++ escape_byte (length d)) ++ escape d) ++ escape_byte (checksum (k ∷ length d ∷ d)))
+unfolding packet_of fields
+packet_built k d = simp append_assoc
+
+-- the front of some data has room
+pub packet_room : (k n : ℕ) (d : List ℕ) → n ≤ data_most → let front = take n d in
+    1 + length (escape_byte k) + length (escape_byte (length front)) + length (escape front) + length (escape_byte (checksum (k ∷ length front ∷ front))) ≤ packet_limit
+unfolding packet_of
+packet_room k n d h =
+    let front = take n d in
+    rw (sym (fields_length k (length front) front (checksum (k ∷ length front ∷ front)))) (packet_of_short k front (omega (arith, length-take n d)))
+
 pub packet_short : PacketShort
 packet_short id access = packet_of_short (command_byte id access)
 
 pub longest_reached : LongestReached
-unfolding packet_of fields escape escape_byte checksum total
+unfolding packet_of fields escape_byte checksum total
 longest_reached = (refl, refl)

@@ -1,5 +1,5 @@
 -- What a packet is: document 01, "Bytes on the bus".
-use Rattle.std.specs.Prelude.{ℕ, ◌+◌, ◌*◌, ◌%◌, Bool, true, false, cond, ◌||◌, List, [], ◌∷◌, ◌++◌, length, eqb}
+use Rattle.std.specs.Prelude.{ℕ, ◌+◌, ◌*◌, ◌%◌, Bool, true, false, cond, ◌||◌, List, [], ◌∷◌, ◌++◌, length, flat_map, eqb}
 use Rattle.packet.specs.declared.writer.Access.{Access}
 use Rattle.packet.specs.declared.writer.Access.TheVariants.{Write, Read}
 
@@ -30,9 +30,8 @@ escape_byte b =
     (cond (eqb b 0x5A) (0x5A ∷ 0x5A ∷ [])
     (b ∷ []))
 
-unfoldable pub escape : List ℕ → List ℕ
-escape [] = []
-escape (b ∷ bs) = escape_byte b ++ escape bs
+abbrev pub escape : List ℕ → List ℕ
+escape bs = flat_map escape_byte bs
 
 -- the start goes out as it is, every other field escaped
 unfoldable pub fields : ℕ → ℕ → List ℕ → ℕ → List ℕ

@@ -1,21 +1,14 @@
 // The sum modulo 256 that ends a packet and a read's reply.
-ghost use Rattle.std.specs.Prelude.{◌≡◌, ◌∷◌, ◌+◌, ◌%◌};
+ghost use Rattle.std.specs.Prelude.{◌≡◌, ◌∷◌};
 ghost use Rattle.packet.specs.Packet.{checksum as checksum_of};
 
-fn add(sum: u8, byte: u8) -> u8
-    ensures { result ≡ (sum + byte) % 256 }
-{
-    (((sum as u16) + (byte as u16)) % 256) as u8
-}
-
+#[tactic(auto, using(crate::proofs::PacketLaws::checksum_more), unfolding(crate::specs::Packet::checksum, crate::specs::Packet::total))]
 pub fn checksum(first: u8, count: u8, bytes: &[u8]) -> u8
     ensures { result ≡ checksum_of (first ∷ count ∷ bytes.now) }
 {
-    let mut sum = add(first, count);
-    let mut i: usize = 0;
-    while i < bytes.len() {
-        sum = add(sum, bytes[i]);
-        i += 1;
+    let mut sum = first.wrapping_add(count);
+    for byte in bytes {
+        sum = sum.wrapping_add(*byte);
     }
     sum
 }

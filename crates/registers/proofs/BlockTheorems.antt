@@ -1,22 +1,17 @@
 -- The theorems on the settings block.
-use Prim.Native.Nat.{ℕ, ◌<◌}
-use native.Mathlib.Omega.{arith}
-use mathlib.Core.Path.{◌≡◌, refl, ap, ◌∙◌}
-use mathlib.Core.Bool.{true}
-use mathlib.Core.List.{List}
-use lib.ListN.{get_or, drop}
-use lib.Dec.{leb}
-use lib.IntN.{ℤ, nat_abs}
-use borrow.Author.Tests.{leb-true}
-use Rattle.number.proofs.NumberLaws.{le16_read}
+use Rattle.std.proofs.Common.{ℕ, ◌<◌, ◌≡◌, refl, true, List, get_or, drop, leb, leb-true, arith}
+use Rattle.base.specs.Bytes.{Bytes}
+use Rattle.base.proofs.ByteLaws.{bytes_each, bytes_drop}
+use Rattle.base.proofs.Tests.{both_true}
+use Rattle.number.proofs.NumberLaws.{le16_below}
 use Rattle.number.specs.Number.{le16}
-use Rattle.number.specs.Signed.{offset, magnitude, sign}
-use Rattle.number.proofs.SignedLaws.{magnitude_range, sign_range, offset_read}
+use Rattle.number.proofs.SignedLaws.{sign_range}
 use Rattle.settings.specs.Range.{gain_limit, switches_in_range, calibration_in_range, CalibrationHeld, StatusHeld}
 use Rattle.settings.proofs.RangeLaws.{switches_held}
-use Rattle.bus.specs.Commands.{offset_bytes, switches_from, offset_from, calibration_from, status_from}
+use Rattle.bus.specs.Commands.{switches_from, calibration_from, status_from}
 use Rattle.bus.proofs.CommandTable.{read_bezel}
 use Rattle.bus.proofs.Keeps.{bezel_from_held, area_from_held}
+use Rattle.registers.specs.Parts.{level_read, heater_read, bezel_read, area_read, calibration_read}
 use Rattle.registers.specs.Block.{
   switches_at,
   heater_at,
@@ -28,10 +23,6 @@ use Rattle.registers.specs.Block.{
   from_block,
 }
 use Rattle.registers.specs.Theorems.{BlockAsWritten, BlockLong, BlockRead, FromBlockHeld, BlockBytes}
-use Rattle.base.specs.Bytes.{Bytes}
-use Rattle.base.proofs.ByteLaws.{bytes_each, bytes_drop}
-use Rattle.base.proofs.Tests.{both_true}
-use Rattle.number.proofs.NumberLaws.{le16_below}
 
 pub block_as_written : BlockAsWritten
 unfolding block
@@ -41,31 +32,21 @@ pub block_long : BlockLong
 unfolding block
 block_long σ = refl
 
-offset_read_bytes : (z : ℤ) → nat_abs z < 65536 → offset_from (offset_bytes z) ≡ z
-offset_read_bytes z h = ap (λ (x : ℕ). offset x (sign z)) (le16_read (magnitude z) (magnitude_range z)) ∙ offset_read z h
-
 pub block_read : BlockRead
 unfolding block from_block
 block_read σ h =
-    let level = le16_read σ.backlight h.backlight in
-    let khz = le16_read σ.heater.khz h.heater.khz in
-    let horizontal = offset_read_bytes σ.bezel.horizontal h.bezel.horizontal in
-    let vertical = offset_read_bytes σ.bezel.vertical h.bezel.vertical in
-    let x0 = le16_read σ.pixels.x0 h.pixels.x0 in
-    let y0 = le16_read σ.pixels.y0 h.pixels.y0 in
-    let x1 = le16_read σ.pixels.x1 h.pixels.x1 in
-    let y1 = le16_read σ.pixels.y1 h.pixels.y1 in
-    let red = le16_read σ.calibration.red h.calibration.red in
-    let green = le16_read σ.calibration.green h.calibration.green in
-    let blue = le16_read σ.calibration.blue h.calibration.blue in
-    let limit = le16_read σ.calibration.limit h.calibration.limit in
+    let backlight = level_read σ.backlight h.backlight in
+    let heater = heater_read σ.heater h.heater in
+    let bezel = bezel_read σ.bezel h.bezel in
+    let pixels = area_read σ.pixels h.pixels in
+    let calibration = calibration_read σ.calibration h.calibration in
     λ i. record {
-      backlight = level i;
+      backlight = backlight i;
       switches = σ.switches;
-      heater = record { khz = khz i; duty = σ.heater.duty };
-      bezel = record { horizontal = horizontal i; vertical = vertical i };
-      pixels = record { x0 = x0 i; y0 = y0 i; x1 = x1 i; y1 = y1 i };
-      calibration = record { mode = σ.calibration.mode; red = red i; green = green i; blue = blue i; limit = limit i; gain = σ.calibration.gain };
+      heater = heater i;
+      bezel = bezel i;
+      pixels = pixels i;
+      calibration = calibration i;
       status = σ.status;
     }
 

@@ -50,19 +50,6 @@ front_bytes σ = le16_bytes σ.backlight ++ switch_bytes σ.switches ++ heater_b
 unfoldable pub block : Settings → List ℕ
 block σ = front_bytes σ ++ area_bytes σ.pixels ++ calibration_bytes σ.calibration ++ status_bytes σ.status
 
--- what a block's bytes say before the test pixels, all else as it was
-abbrev pub front_from : Settings → List ℕ → Settings
-front_from σ d =
-    record {
-      backlight = le16 d;
-      switches = switches_from (drop switches_at d);
-      heater = heater_from (drop heater_at d);
-      bezel = bezel_from (drop bezel_at d);
-      pixels = σ.pixels;
-      calibration = σ.calibration;
-      status = σ.status;
-    }
-
 -- what a block's bytes say
 unfoldable pub from_block : List ℕ → Settings
 from_block d =

@@ -1,2 +1,4 @@
 pub mod Block
+pub mod Failure
+pub mod Parts
 pub mod Theorems

@@ -4,38 +4,29 @@ ghost use Rattle.bus.specs.Commands as spec;
 
 use crate::lookup::{access, offers, request_length};
 use crate::reads::read_register;
-use crate::reply::failed;
+use crate::reply::{Failure, failed};
 use crate::writes::write_register;
-use bus::{CommandRow, Lookup, ModeRight, Performed};
+use bus::{CommandRow, ModeRight, Performed};
 use command_table::lookup_command;
 use packet::Access;
-use settings::{Flag, Settings};
+use settings::Settings;
 
 fn execute(settings: Settings, row: CommandRow, access: Access, bytes: &[u8]) -> Performed
     ensures { result ≡ spec.execute settings row access bytes.now }
 {
-    let register = row.register;
     match access {
-        Access::Write => write_register(settings, register, bytes),
-        Access::Read => read_register(settings, row.id, register),
+        Access::Write => write_register(settings, row.register, bytes),
+        Access::Read => read_register(settings, row.id, row.register),
     }
 }
 
 fn denies(right: ModeRight, access: Access, master: u8, mode: u8) -> bool
     ensures { result ≡ spec.denies right access master mode }
 {
-    match right {
-        ModeRight::Always => false,
-        ModeRight::MasterOn => master == 0,
-        ModeRight::CalibrationOnly => match access {
-            Access::Write => {
-                if master == 0 {
-                    return true;
-                }
-                mode == 0
-            }
-            Access::Read => master == 0,
-        },
+    match (right, access) {
+        (ModeRight::Always, _) => false,
+        (ModeRight::CalibrationOnly, Access::Write) => master == 0 || mode == 0,
+        (ModeRight::MasterOn | ModeRight::CalibrationOnly, _) => master == 0,
     }
 }
 
@@ -43,40 +34,45 @@ fn denies(right: ModeRight, access: Access, master: u8, mode: u8) -> bool
 fn locked(settings: Settings, row: CommandRow, access: Access) -> bool
     ensures { result ≡ spec.locked settings row access }
 {
-    let right = row.right;
-    let switches = settings.switches;
-    let calibration = settings.calibration;
-    denies(right, access, switches.master, calibration.mode)
+    denies(
+        row.right,
+        access,
+        settings.switches.master,
+        settings.calibration.mode,
+    )
 }
 
+// Each check is a definition of its own in bus's specs, in the paper's order, and takes what that takes.
+#[tactic(auto, unfolding(bus::specs::Commands::perform_offered))]
 fn perform_offered(settings: Settings, row: CommandRow, access: Access, bytes: &[u8]) -> Performed
     ensures { result ≡ spec.perform_offered settings row access bytes.now }
 {
     if locked(settings, row, access) {
-        return failed(settings, Flag::NotAvailable, 0x04);
+        failed(settings, Failure::NotAvailable)
+    } else if bytes.len() == request_length(row, access) {
+        execute(settings, row, access, bytes)
+    } else {
+        failed(settings, Failure::WrongLength)
     }
-    if bytes.len() == request_length(row, access) {
-        return execute(settings, row, access, bytes);
-    }
-    failed(settings, Flag::WrongLength, 0x05)
 }
 
+#[tactic(auto, unfolding(bus::specs::Commands::perform_found))]
 fn perform_found(settings: Settings, row: CommandRow, access: Access, bytes: &[u8]) -> Performed
     ensures { result ≡ spec.perform_found settings row access bytes.now }
 {
     if offers(row, access) {
-        return perform_offered(settings, row, access, bytes);
+        perform_offered(settings, row, access, bytes)
+    } else {
+        failed(settings, Failure::InvalidCommand)
     }
-    failed(settings, Flag::InvalidCommand, 0x03)
 }
 
 // Runs a command whose checksum was right: the settings after it and its reply.
 pub fn perform(settings: Settings, command: u8, bytes: &[u8]) -> Performed
     ensures { result ≡ spec.perform settings command bytes.now }
 {
-    let found = lookup_command(command);
-    match found {
-        Lookup::Found(row) => perform_found(settings, row, access(command), bytes),
-        Lookup::Unknown => failed(settings, Flag::InvalidCommand, 0x03),
+    match lookup_command(command) {
+        Some(row) => perform_found(settings, row, access(command), bytes),
+        None => failed(settings, Failure::InvalidCommand),
     }
 }

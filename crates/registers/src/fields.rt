@@ -1,30 +1,152 @@
 // The parts of the settings in bytes and back.
-ghost use Rattle.std.specs.Prelude.{◌≡◌, drop};
-ghost use Rattle.number.specs.Number as number_spec;
+ghost use Rattle.std.specs.Prelude.{◌≡◌, ◌<◌, ℕ, ℤ, List, [], ◌∷◌, get_or, nat_abs};
+ghost use Rattle.number.specs.Number.{le16 as le16_of, le16_bytes};
+ghost use Rattle.settings.specs.Range.{SwitchesHeld, HeaterHeld, OffsetsHeld, AreaHeld, CalibrationHeld, StatusHeld};
 ghost use Rattle.bus.specs.Commands as spec;
+ghost use Rattle.registers.specs.Parts as parts;
 
 use number::{byte, high, le16, low, magnitude, offset, rest, sign};
 use settings::{Area, Calibration, HeaterDrive, Offsets, StatusBytes, Switches};
 
-pub(crate) fn heater_bytes(h: HeaterDrive) -> [u8; 3]
-    ensures { result ≡ spec.heater_bytes h }
-{
-    [low(h.khz), high(h.khz), h.duty]
+// A part of the settings, of N bytes.
+pub(crate) trait Part<const N: usize>: Copy {
+    ghost in_bytes: { Self → List ℕ };
+
+    ghost of_bytes: { List ℕ → Self };
+
+    ghost Fits: { Self → Type 0 };
+
+    fn to_bytes(self) -> [u8; N]
+        ensures { result ≡ in_bytes self };
+
+    // What the bytes begin with; a byte past their end counts as 0.
+    fn from_bytes(bytes: &[u8]) -> Self
+        ensures { result ≡ of_bytes bytes.now };
+
+    ghost reads_back: { (part : Self) → Fits part → of_bytes (in_bytes part) ≡ part };
 }
 
-fn offset_bytes(z: i32) -> [u8; 3]
-    ensures { result ≡ spec.offset_bytes z }
-{
-    let amount = magnitude(z);
-    [low(amount), high(amount), sign(z)]
+impl Part<1> for u8 {
+    ghost in_bytes = { λ value. value ∷ [] };
+
+    ghost of_bytes = { λ bytes. get_or bytes 0 0 };
+
+    ghost Fits = { λ value. value < 256 };
+
+    ghost reads_back = { parts.byte_read };
+
+    fn to_bytes(self) -> [u8; 1] {
+        [self]
+    }
+
+    fn from_bytes(bytes: &[u8]) -> u8 {
+        byte(bytes, 0)
+    }
 }
 
-pub(crate) fn bezel_bytes(o: Offsets) -> [u8; 6]
-    ensures { result ≡ spec.bezel_bytes o }
-{
-    let h = offset_bytes(o.horizontal);
-    let v = offset_bytes(o.vertical);
-    [h[0], h[1], h[2], v[0], v[1], v[2]]
+impl Part<2> for u16 {
+    ghost in_bytes = { le16_bytes };
+
+    ghost of_bytes = { le16_of };
+
+    ghost Fits = { λ level. level < 65536 };
+
+    ghost reads_back = { parts.level_read };
+
+    fn to_bytes(self) -> [u8; 2] {
+        [low(self), high(self)]
+    }
+
+    fn from_bytes(bytes: &[u8]) -> u16 {
+        le16(bytes)
+    }
+}
+
+// An offset of the bezel: its amount and its sign.
+impl Part<3> for i32 {
+    ghost in_bytes = { spec.offset_bytes };
+
+    ghost of_bytes = { spec.offset_from };
+
+    ghost Fits = { λ offset. nat_abs offset < 65536 };
+
+    ghost reads_back = { parts.offset_read };
+
+    fn to_bytes(self) -> [u8; 3] {
+        let amount = magnitude(self);
+        [low(amount), high(amount), sign(self)]
+    }
+
+    fn from_bytes(bytes: &[u8]) -> i32 {
+        offset(le16(bytes), byte(bytes, 2))
+    }
+}
+
+impl Part<4> for Switches {
+    ghost in_bytes = { spec.switch_bytes };
+
+    ghost of_bytes = { spec.switches_from };
+
+    ghost Fits = { SwitchesHeld };
+
+    ghost reads_back = { parts.switches_read };
+
+    fn to_bytes(self) -> [u8; 4] {
+        [self.master, self.park, self.splash, self.strength]
+    }
+
+    fn from_bytes(bytes: &[u8]) -> Switches {
+        Switches {
+            master: byte(bytes, 0),
+            park: byte(bytes, 1),
+            splash: byte(bytes, 2),
+            strength: byte(bytes, 3),
+        }
+    }
+}
+
+impl Part<3> for HeaterDrive {
+    ghost in_bytes = { spec.heater_bytes };
+
+    ghost of_bytes = { spec.heater_from };
+
+    ghost Fits = { HeaterHeld };
+
+    ghost reads_back = { parts.heater_read };
+
+    fn to_bytes(self) -> [u8; 3] {
+        [low(self.khz), high(self.khz), self.duty]
+    }
+
+    fn from_bytes(bytes: &[u8]) -> HeaterDrive {
+        HeaterDrive {
+            khz: le16(bytes),
+            duty: byte(bytes, 2),
+        }
+    }
+}
+
+impl Part<6> for Offsets {
+    ghost in_bytes = { spec.bezel_bytes };
+
+    ghost of_bytes = { spec.bezel_from };
+
+    ghost Fits = { OffsetsHeld };
+
+    ghost reads_back = { parts.bezel_read };
+
+    fn to_bytes(self) -> [u8; 6] {
+        let h: [u8; 3] = self.horizontal.to_bytes();
+        let v: [u8; 3] = self.vertical.to_bytes();
+        [h[0], h[1], h[2], v[0], v[1], v[2]]
+    }
+
+    fn from_bytes(bytes: &[u8]) -> Offsets {
+        Offsets {
+            horizontal: i32::from_bytes(bytes),
+            vertical: i32::from_bytes(rest(bytes, 3)),
+        }
+    }
 }
 
 // Two numbers of two bytes.
@@ -34,120 +156,82 @@ fn pair_bytes(x: u16, y: u16) -> [u8; 4]
     [low(x), high(x), low(y), high(y)]
 }
 
-pub(crate) fn area_bytes(a: Area) -> [u8; 8]
-    ensures { result ≡ spec.area_bytes a }
-{
-    let start = pair_bytes(a.x0, a.y0);
-    let end = pair_bytes(a.x1, a.y1);
-    [
-        start[0], start[1], start[2], start[3], end[0], end[1], end[2], end[3],
-    ]
-}
+impl Part<8> for Area {
+    ghost in_bytes = { spec.area_bytes };
 
-pub(crate) fn calibration_bytes(c: Calibration) -> [u8; 10]
-    ensures { result ≡ spec.calibration_bytes c }
-{
-    let first = pair_bytes(c.red, c.green);
-    let second = pair_bytes(c.blue, c.limit);
-    [
-        c.mode, first[0], first[1], first[2], first[3], second[0], second[1], second[2], second[3],
-        c.gain,
-    ]
-}
+    ghost of_bytes = { spec.area_from };
 
-pub(crate) fn status_bytes(s: StatusBytes) -> [u8; 4]
-    ensures { result ≡ spec.status_bytes s }
-{
-    [s.first, s.second, s.third, s.fourth]
-}
+    ghost Fits = { AreaHeld };
 
-// The parts are read from a place on.
+    ghost reads_back = { parts.area_read };
 
-pub(crate) fn switches_from(bytes: &[u8], at: usize) -> Switches
-    ensures { result ≡ spec.switches_from (drop at bytes.now) }
-{
-    let part = rest(bytes, at);
-    Switches {
-        master: byte(part, 0),
-        park: byte(part, 1),
-        splash: byte(part, 2),
-        strength: byte(part, 3),
+    fn to_bytes(self) -> [u8; 8] {
+        let start = pair_bytes(self.x0, self.y0);
+        let end = pair_bytes(self.x1, self.y1);
+        [
+            start[0], start[1], start[2], start[3], end[0], end[1], end[2], end[3],
+        ]
+    }
+
+    fn from_bytes(bytes: &[u8]) -> Area {
+        Area {
+            x0: le16(bytes),
+            y0: le16(rest(bytes, 2)),
+            x1: le16(rest(bytes, 4)),
+            y1: le16(rest(bytes, 6)),
+        }
     }
 }
 
-pub(crate) fn heater_from(bytes: &[u8], at: usize) -> HeaterDrive
-    ensures { result ≡ spec.heater_from (drop at bytes.now) }
-{
-    let part = rest(bytes, at);
-    HeaterDrive {
-        khz: le16(part),
-        duty: byte(part, 2),
+impl Part<10> for Calibration {
+    ghost in_bytes = { spec.calibration_bytes };
+
+    ghost of_bytes = { spec.calibration_from };
+
+    ghost Fits = { CalibrationHeld };
+
+    ghost reads_back = { parts.calibration_read };
+
+    fn to_bytes(self) -> [u8; 10] {
+        let first = pair_bytes(self.red, self.green);
+        let second = pair_bytes(self.blue, self.limit);
+        [
+            self.mode, first[0], first[1], first[2], first[3], second[0], second[1], second[2],
+            second[3], self.gain,
+        ]
+    }
+
+    fn from_bytes(bytes: &[u8]) -> Calibration {
+        Calibration {
+            mode: byte(bytes, 0),
+            red: le16(rest(bytes, 1)),
+            green: le16(rest(bytes, 3)),
+            blue: le16(rest(bytes, 5)),
+            limit: le16(rest(bytes, 7)),
+            gain: byte(bytes, 9),
+        }
     }
 }
 
-fn offset_from(bytes: &[u8], at: usize) -> i32
-    ensures { result ≡ spec.offset_from (drop at bytes.now) }
-{
-    let part = rest(bytes, at);
-    offset(le16(part), byte(part, 2))
-}
+impl Part<4> for StatusBytes {
+    ghost in_bytes = { spec.status_bytes };
 
-pub(crate) fn bezel_from(bytes: &[u8], at: usize) -> Offsets
-    ensures { result ≡ spec.bezel_from (drop at bytes.now) }
-{
-    let part = rest(bytes, at);
-    Offsets {
-        horizontal: offset_from(part, 0),
-        vertical: offset_from(part, 3),
+    ghost of_bytes = { spec.status_from };
+
+    ghost Fits = { StatusHeld };
+
+    ghost reads_back = { parts.status_read };
+
+    fn to_bytes(self) -> [u8; 4] {
+        [self.first, self.second, self.third, self.fourth]
     }
-}
 
-fn le16_from(bytes: &[u8], at: usize) -> u16
-    ensures { result ≡ number_spec.le16 (drop at bytes.now) }
-{
-    le16(rest(bytes, at))
-}
-
-pub(crate) fn area_from(bytes: &[u8], at: usize) -> Area
-    ensures { result ≡ spec.area_from (drop at bytes.now) }
-{
-    let part = rest(bytes, at);
-    Area {
-        x0: le16_from(part, 0),
-        y0: le16_from(part, 2),
-        x1: le16_from(part, 4),
-        y1: le16_from(part, 6),
-    }
-}
-
-fn levels_from(bytes: &[u8], mode: u8, gain: u8) -> Calibration
-    ensures { result ≡ spec.levels_from bytes.now mode gain }
-{
-    Calibration {
-        mode,
-        red: le16_from(bytes, 1),
-        green: le16_from(bytes, 3),
-        blue: le16_from(bytes, 5),
-        limit: le16_from(bytes, 7),
-        gain,
-    }
-}
-
-pub(crate) fn calibration_from(bytes: &[u8], at: usize) -> Calibration
-    ensures { result ≡ spec.calibration_from (drop at bytes.now) }
-{
-    let part = rest(bytes, at);
-    levels_from(part, byte(part, 0), byte(part, 9))
-}
-
-pub(crate) fn status_from(bytes: &[u8], at: usize) -> StatusBytes
-    ensures { result ≡ spec.status_from (drop at bytes.now) }
-{
-    let part = rest(bytes, at);
-    StatusBytes {
-        first: byte(part, 0),
-        second: byte(part, 1),
-        third: byte(part, 2),
-        fourth: byte(part, 3),
+    fn from_bytes(bytes: &[u8]) -> StatusBytes {
+        StatusBytes {
+            first: byte(bytes, 0),
+            second: byte(bytes, 1),
+            third: byte(bytes, 2),
+            fourth: byte(bytes, 3),
+        }
     }
 }

@@ -6,26 +6,21 @@ use bus::{CommandRow, Ways};
 use packet::Access;
 
 // Whether a command byte writes or reads.
+#[tactic(auto, unfolding(bus::specs::Commands::access))]
 pub(crate) fn access(command: u8) -> Access
     ensures { result ≡ spec.access command }
 {
     if command % 2 == 1 {
-        return Access::Read;
+        Access::Read
+    } else {
+        Access::Write
     }
-    Access::Write
 }
 
 pub(crate) fn offers(row: CommandRow, access: Access) -> bool
     ensures { result ≡ spec.offers row access }
 {
-    let ways = row.ways;
-    match access {
-        Access::Write => match ways {
-            Ways::ReadWrite => true,
-            Ways::ReadOnly => false,
-        },
-        Access::Read => true,
-    }
+    !matches!((row.ways, access), (Ways::ReadOnly, Access::Write))
 }
 
 pub(crate) fn request_length(row: CommandRow, access: Access) -> usize

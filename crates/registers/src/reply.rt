@@ -1,30 +1,44 @@
 // A command's reply.
-ghost use Rattle.std.specs.Prelude.{◌≡◌, ◌∷◌, ◌≤◌, length, replicate};
+ghost use Rattle.std.specs.Prelude.{◌≡◌, ◌≤◌, length};
 ghost use Rattle.packet.specs.Reply.{success as success_of};
-ghost use Rattle.base.specs.Lent.{overwritten};
 ghost use Rattle.bus.specs.Commands as spec;
+ghost use Rattle.registers.specs.Failure.{flag as flag_of, code as code_of};
 
 use base::store;
-use bus::{Performed, REPLY_LIMIT, ReplyBytes, response};
+use bus::{Performed, ReplyBytes, response};
 use settings::{Flag, Settings};
 
-// The data of a reply behind its response and its length.
-fn payload(bytes: &[u8], count: u8) -> [u8; REPLY_LIMIT]
-    requires { (length bytes.now ≤ 8) × (count ≡ length bytes.now) }
-    ensures { result ≡ overwritten (0x01 ∷ count ∷ bytes.now) (replicate spec.reply_limit 0) }
-{
-    let mut out = [0x01, count, 0, 0, 0, 0, 0, 0, 0, 0, 0];
-    store(bytes, &mut out, 2);
-    out
+// Why a command is not performed: each one's response.
+#[derive(Clone, Copy)]
+pub(crate) enum Failure {
+    InvalidCommand = 0x03,
+    NotAvailable = 0x04,
+    WrongLength = 0x05,
+    OutOfRange = 0x07,
 }
 
+impl Failure {
+    fn flag(self) -> Flag
+        ensures { result ≡ flag_of self }
+    {
+        match self {
+            Failure::InvalidCommand => Flag::InvalidCommand,
+            Failure::NotAvailable => Flag::NotAvailable,
+            Failure::WrongLength => Flag::WrongLength,
+            Failure::OutOfRange => Flag::OutOfRange,
+        }
+    }
+}
+
+// A reply with data behind its response and its length.
 pub(crate) fn success(bytes: &[u8]) -> ReplyBytes
     requires { length bytes.now ≤ 8 }
     ensures { result ≡ spec.reply_of (success_of bytes.now) }
 {
     let n = bytes.len();
     let count = n as u8;
-    let mut out = payload(bytes, count);
+    let mut out = [0x01, count, 0, 0, 0, 0, 0, 0, 0, 0, 0];
+    store(bytes, &mut out, 2);
     out[n + 2] = packet::checksum(0x01, count, bytes);
     ReplyBytes {
         bytes: out,
@@ -32,11 +46,12 @@ pub(crate) fn success(bytes: &[u8]) -> ReplyBytes
     }
 }
 
-pub(crate) fn failed(settings: Settings, flag: Flag, code: u8) -> Performed
-    ensures { result ≡ spec.failed settings flag code }
+// A command that is not performed gives settings and a reply too, so none gives a Result.
+pub(crate) fn failed(settings: Settings, failure: Failure) -> Performed
+    ensures { result ≡ spec.failed settings (flag_of failure) (code_of failure) }
 {
     Performed {
-        settings: settings.flagged(flag),
-        reply: response(code),
+        settings: settings.flagged(failure.flag()),
+        reply: response(failure as u8),
     }
 }

@@ -2,11 +2,11 @@
 ghost use Rattle.std.specs.Prelude.{◌≡◌};
 ghost use Rattle.bus.specs.Commands as spec;
 
-use crate::fields::{area_from, bezel_from, heater_from};
-use crate::reply::failed;
+use crate::fields::Part;
+use crate::reply::{Failure, failed};
 use bus::{Performed, Register, response};
-use number::{byte, le16};
-use settings::{DUTY_LIMIT, Flag, GAIN_LIMIT, SIGN_LIMIT, STRENGTH_LIMIT, SWITCH_LIMIT, Settings};
+use number::byte;
+use settings::{DUTY_LIMIT, GAIN_LIMIT, SIGN_LIMIT, STRENGTH_LIMIT, SWITCH_LIMIT, Settings};
 
 fn at_most(bytes: &[u8], i: usize, most: u8) -> bool
     ensures { result ≡ spec.at_most bytes.now i most }
@@ -18,122 +18,63 @@ fn at_most(bytes: &[u8], i: usize, most: u8) -> bool
 fn signs_accepted(bytes: &[u8]) -> bool
     ensures { result ≡ spec.signs_accepted bytes.now }
 {
-    if at_most(bytes, 2, SIGN_LIMIT) {
-        return at_most(bytes, 5, SIGN_LIMIT);
-    }
-    false
+    at_most(bytes, 2, SIGN_LIMIT) && at_most(bytes, 5, SIGN_LIMIT)
 }
 
 fn accepts(register: Register, bytes: &[u8]) -> bool
     ensures { result ≡ spec.accepts register bytes.now }
 {
     match register {
-        Register::Backlight => true,
-        Register::Master => at_most(bytes, 0, SWITCH_LIMIT),
-        Register::Park => at_most(bytes, 0, SWITCH_LIMIT),
-        Register::Splash => at_most(bytes, 0, SWITCH_LIMIT),
+        Register::Master | Register::Park | Register::Splash | Register::CalibrationMode => {
+            at_most(bytes, 0, SWITCH_LIMIT)
+        }
         Register::Strength => at_most(bytes, 0, STRENGTH_LIMIT),
         Register::Heater => at_most(bytes, 2, DUTY_LIMIT),
         Register::Bezel => signs_accepted(bytes),
-        Register::Status => true,
-        Register::Pixels => true,
-        Register::CalibrationMode => at_most(bytes, 0, SWITCH_LIMIT),
-        Register::RedLevel => true,
-        Register::GreenLevel => true,
-        Register::BlueLevel => true,
-        Register::CurrentLimit => true,
         Register::SensorGain => at_most(bytes, 0, GAIN_LIMIT),
+        Register::Backlight
+        | Register::Status
+        | Register::Pixels
+        | Register::RedLevel
+        | Register::GreenLevel
+        | Register::BlueLevel
+        | Register::CurrentLimit => true,
     }
 }
 
-fn written(settings: Settings, register: Register, bytes: &[u8]) -> Settings
+fn written(mut settings: Settings, register: Register, bytes: &[u8]) -> Settings
     ensures { result ≡ spec.written settings register bytes.now }
 {
-    let mut s = settings;
-    let mut switches = settings.switches;
-    let mut calibration = settings.calibration;
     match register {
-        Register::Backlight => {
-            s.backlight = le16(bytes);
-            s
-        }
-        Register::Master => {
-            switches.master = byte(bytes, 0);
-            s.switches = switches;
-            s
-        }
-        Register::Park => {
-            switches.park = byte(bytes, 0);
-            s.switches = switches;
-            s
-        }
-        Register::Splash => {
-            switches.splash = byte(bytes, 0);
-            s.switches = switches;
-            s
-        }
-        Register::Strength => {
-            switches.strength = byte(bytes, 0);
-            s.switches = switches;
-            s
-        }
-        Register::Heater => {
-            let h = heater_from(bytes, 0);
-            s.heater = h;
-            s
-        }
-        Register::Bezel => {
-            let o = bezel_from(bytes, 0);
-            s.bezel = o;
-            s
-        }
-        Register::Status => s,
-        Register::Pixels => {
-            let a = area_from(bytes, 0);
-            s.pixels = a;
-            s
-        }
-        Register::CalibrationMode => {
-            calibration.mode = byte(bytes, 0);
-            s.calibration = calibration;
-            s
-        }
-        Register::RedLevel => {
-            calibration.red = le16(bytes);
-            s.calibration = calibration;
-            s
-        }
-        Register::GreenLevel => {
-            calibration.green = le16(bytes);
-            s.calibration = calibration;
-            s
-        }
-        Register::BlueLevel => {
-            calibration.blue = le16(bytes);
-            s.calibration = calibration;
-            s
-        }
-        Register::CurrentLimit => {
-            calibration.limit = le16(bytes);
-            s.calibration = calibration;
-            s
-        }
-        Register::SensorGain => {
-            calibration.gain = byte(bytes, 0);
-            s.calibration = calibration;
-            s
-        }
+        Register::Backlight => settings.backlight = Part::from_bytes(bytes),
+        Register::Master => settings.switches.master = Part::from_bytes(bytes),
+        Register::Park => settings.switches.park = Part::from_bytes(bytes),
+        Register::Splash => settings.switches.splash = Part::from_bytes(bytes),
+        Register::Strength => settings.switches.strength = Part::from_bytes(bytes),
+        Register::Heater => settings.heater = Part::from_bytes(bytes),
+        Register::Bezel => settings.bezel = Part::from_bytes(bytes),
+        Register::Status => {}
+        Register::Pixels => settings.pixels = Part::from_bytes(bytes),
+        Register::CalibrationMode => settings.calibration.mode = Part::from_bytes(bytes),
+        Register::RedLevel => settings.calibration.red = Part::from_bytes(bytes),
+        Register::GreenLevel => settings.calibration.green = Part::from_bytes(bytes),
+        Register::BlueLevel => settings.calibration.blue = Part::from_bytes(bytes),
+        Register::CurrentLimit => settings.calibration.limit = Part::from_bytes(bytes),
+        Register::SensorGain => settings.calibration.gain = Part::from_bytes(bytes),
     }
+    settings
 }
 
+#[tactic(auto, unfolding(bus::specs::Commands::write_register))]
 pub(crate) fn write_register(settings: Settings, register: Register, bytes: &[u8]) -> Performed
     ensures { result ≡ spec.write_register settings register bytes.now }
 {
     if accepts(register, bytes) {
-        return Performed {
+        Performed {
             settings: written(settings, register, bytes),
             reply: response(0x01),
-        };
+        }
+    } else {
+        failed(settings, Failure::OutOfRange)
     }
-    failed(settings, Flag::OutOfRange, 0x07)
 }

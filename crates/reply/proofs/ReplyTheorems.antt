@@ -1,5 +1,5 @@
 -- The reader's definition on what a controller sends, and on what none does.
-use mathlib.Core.Path.{◌≡◌, refl, ap, ◌∙◌}
+use mathlib.Core.Path.{◌≡◌, refl, ◌∙◌}
 use mathlib.Core.Bool.{Bool, true, false}
 use mathlib.Core.List.{List, [], ◌∷◌, ◌++◌, append_assoc, append-nil}
 use mathlib.Core.Logic.{inl, inr}
@@ -21,9 +21,8 @@ use Rattle.reply.specs.Theorems.{SuccessRead, Reserved, ResponseRead, ReservedRe
 
 module _ (bytes : List ℕ) (first : dummies bytes ≡ 0) where
   dummies_passed : (n : ℕ) → dummies (replicate n 0xFF ++ bytes) ≡ n
-  unfolding dummies
   dummies_passed zero = first
-  dummies_passed (suc n) = ap suc (dummies_passed n)
+  dummies_passed (suc n) = rw (dummies_passed n) (omega arith)
 
   dummies_dropped : (n : ℕ) → drop n (replicate n 0xFF ++ bytes) ≡ bytes
   dummies_dropped zero = refl
@@ -33,11 +32,10 @@ module _ (bytes : List ℕ) (first : dummies bytes ≡ 0) where
   after_dummies asked n = rw (dummies_passed n, dummies_dropped n)
 
 no_dummy : (b : ℕ) (bytes : List ℕ) → (b ≡ 0xFF → ⊥) → dummies (b ∷ bytes) ≡ 0
-unfolding dummies
 no_dummy b bytes h = rw (ne_eqb b 0xFF h)
 
 pub dummies_refused : DummiesRefused
-unfolding dummies reply_at
+unfolding reply_at
 dummies_refused asked n = rw append-nil at (after_dummies [] refl asked n)
 
 -- ---- a good read
@@ -51,7 +49,7 @@ success_found bytes after n =
     (simp (lt-leb (length (bytes ++ sum ∷ after)) (length bytes) (omega (arith, length-append bytes (sum ∷ after))), eq-eqb sum sum refl))
 
 pub success_read : SuccessRead
-unfolding dummies success
+unfolding success
 success_read bytes after n = after_dummies (success bytes ++ after) refl Read n ∙ success_found bytes after n
 
 -- ---- a response alone

@@ -1,22 +1,15 @@
 -- What the reply reader is to answer: document 01, "Refusal numbers".
-use Rattle.std.specs.Prelude.{ℕ, suc, ◌+◌, Bool, cond, ◌||◌, ◌&&◌, List, [], ◌∷◌, length, get_or, take, drop, leb, eqb}
-use Rattle.base.specs.Refusal.{number}
+use Rattle.std.specs.Prelude.{ℕ, ◌+◌, Bool, cond, ◌||◌, ◌&&◌, ◌==◌, List, [], ◌∷◌, length, get_or, take, drop, leb, eqb}
+use Rattle.std.specs.List.{prefix_len}
 use Rattle.base.specs.Result.{Result, refused, accepted}
 use Rattle.packet.specs.Packet.{checksum}
 use Rattle.packet.specs.declared.writer.Access.{Access}
 use Rattle.packet.specs.declared.writer.Access.TheVariants.{Write, Read}
 use Rattle.reply.specs.declared.reader.Reply.{Reply}
-use Rattle.reply.specs.declared.reader.ReplyRead.{ReplyRead}
-use Rattle.reply.specs.declared.reader.ReplyRead.TheVariants.{Whole, Refused}
-
-abbrev pub answer : ReplyRead → Result Reply
-answer (Refused r) = refused (number r)
-answer (Whole r) = accepted r
 
 -- how many 0xFF stand at the front
-unfoldable pub dummies : List ℕ → ℕ
-dummies [] = 0
-dummies (b ∷ bs) = cond (eqb b 0xFF) (suc (dummies bs)) 0
+abbrev pub dummies : List ℕ → ℕ
+dummies bytes = prefix_len (λ b. b == 0xFF) bytes
 
 -- the responses that no controller gives
 abbrev pub reserved : ℕ → Bool

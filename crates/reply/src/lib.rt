@@ -3,4 +3,4 @@
 
 mod reader;
 
-pub use reader::{Reply, ReplyRead, read_reply};
+pub use reader::{Reply, read_reply};

@@ -1,167 +1,110 @@
 // At the office: opening a session, and sending again, each as the same frame.
 #![tactic(auto)]
 
-ghost use Rattle.std.specs.Prelude.{◌≡◌, ◌≤◌, length};
-ghost use Rattle.std.proofs.Math.Option.{some};
-ghost use Rattle.frame.specs.Frame as frames;
-ghost use Rattle.frame.specs.View.{asked, meaning, refusal_of};
+ghost use Rattle.std.specs.Prelude.{◌≡◌, length, cond, ltb};
+ghost use Rattle.std.proofs.Math.Option.{some, none};
+ghost use Rattle.base.specs.Refusal.{plain};
+ghost use Rattle.frame.specs.View.{meaning, refusal_of};
 ghost use Rattle.link.specs.View.{frame_limit};
 ghost use Rattle.session.specs.Office as spec;
-ghost use Rattle.outcome.specs.Turn as turn;
-ghost use Rattle.office.specs.View.{Gives};
+ghost use Rattle.outcome.specs.Turn.{Gives};
 ghost use Rattle.sending.specs.View as view;
 
 use base::Refusal;
-use frame::{Change, Frame, OrderNumber, SessionId, Verdict};
+use frame::{Frame, OrderNumber, SessionId};
 use link::FRAME_LIMIT;
-use office::Answered;
-use session::{Office, Order, Stage, WINDOW_LIMIT};
+use outcome::Answered;
+use session::{Office, Stage, WINDOW_LIMIT};
 use starting::{is_awaiting, is_live, never_opened};
 
-fn send_opening(office: Office, out: &mut [u8]) -> Answered
-    requires { frame_limit ≤ length out.old }
-    ensures { Gives (turn.wrote office (frames.opening office.session.0)) result out.old out.new }
+// Whether an output has room for any frame.
+fn room_refusal(room: usize) -> Result<(), Refusal>
+    ensures { refusal_of result ≡ cond (ltb room frame_limit) (some (plain 1)) none }
 {
-    office::send(office, Frame::opening(office.session), &mut *out)
+    if room < FRAME_LIMIT {
+        return Err(Refusal::OutputTooShort);
+    }
+    Ok(())
 }
 
-fn open_refusal(office: Office, session: SessionId, room: usize) -> Verdict
+// Of any office: it is there for the contract alone.
+#[tactic(auto, using(base::proofs::Tests::tests), unfolding(session::specs::Office::open_session))]
+fn open_refusal(office: Office, session: SessionId, room: usize) -> Result<(), Refusal>
     ensures { refusal_of result ≡ (spec.open_session office session.0 room).refusal }
 {
-    if session.0 == 0 {
-        return Verdict::Refused(Refusal::WrongSession);
+    if session == SessionId(0) {
+        return Err(Refusal::WrongSession);
     }
-    if room < FRAME_LIMIT {
-        return Verdict::Refused(Refusal::OutputTooShort);
-    }
-    Verdict::Accepted
+    room_refusal(room)
 }
 
 fn awaiting(session: SessionId) -> Office
     ensures { result ≡ view.awaiting session.0 }
 {
-    let never = never_opened();
-    let settings = never.settings;
-    let issued = never.issued;
-    let confirmed = never.confirmed;
-    let window = never.window;
     Office {
         stage: Stage::Awaiting,
         session,
-        settings,
-        issued,
-        confirmed,
-        window,
+        ..never_opened()
     }
-}
-
-fn open_anew(session: SessionId, out: &mut [u8]) -> Answered
-    requires { frame_limit ≤ length out.old }
-    ensures { Gives (turn.wrote (view.awaiting session.0) (frames.opening session.0)) result out.old out.new }
-{
-    send_opening(awaiting(session), &mut *out)
 }
 
 // Starts anew with a session and writes its OPEN.
-pub fn open(office: Office, session: SessionId, out: &mut [u8]) -> Answered
+pub fn open(office: Office, session: SessionId, out: &mut [u8]) -> Answered<Office>
     ensures { Gives (spec.open_session office session.0 (length out.old)) result out.old out.new }
 {
-    let verdict = open_refusal(office, session, out.len());
-    match verdict {
-        Verdict::Accepted => open_anew(session, &mut *out),
-        Verdict::Refused(_) => Answered {
-            office,
-            verdict,
-            len: 0,
-        },
+    match open_refusal(office, session, out.len()) {
+        Ok(()) => office::send(awaiting(session), Frame::opening(session), out),
+        Err(refusal) => Answered::refused(office, refusal),
     }
 }
 
-fn reopen_refusal(office: Office, room: usize) -> Verdict
+#[tactic(auto, using(base::proofs::Tests::tests), unfolding(session::specs::Office::reopen))]
+fn reopen_refusal(office: Office, room: usize) -> Result<(), Refusal>
     ensures { refusal_of result ≡ (spec.reopen office room).refusal }
 {
-    let stage = office.stage;
-    if !is_awaiting(stage) {
-        return Verdict::Refused(Refusal::NothingToResend);
+    if !is_awaiting(office.stage) {
+        return Err(Refusal::NothingToResend);
     }
-    if room < FRAME_LIMIT {
-        return Verdict::Refused(Refusal::OutputTooShort);
-    }
-    Verdict::Accepted
+    room_refusal(room)
 }
 
 // Sends OPEN again.
-pub fn reopen(office: Office, out: &mut [u8]) -> Answered
+pub fn reopen(office: Office, out: &mut [u8]) -> Answered<Office>
     ensures { Gives (spec.reopen office (length out.old)) result out.old out.new }
 {
-    let verdict = reopen_refusal(office, out.len());
-    match verdict {
-        Verdict::Accepted => send_opening(office, &mut *out),
-        Verdict::Refused(_) => Answered {
-            office,
-            verdict,
-            len: 0,
-        },
+    match reopen_refusal(office, out.len()) {
+        Ok(()) => office::send(office, Frame::opening(office.session), out),
+        Err(refusal) => Answered::refused(office, refusal),
     }
 }
 
-fn resend_refusal(office: Office, number: OrderNumber, room: usize) -> Verdict
+#[tactic(auto, using(base::proofs::Tests::tests), unfolding(session::specs::Office::resend))]
+fn resend_refusal(office: Office, number: OrderNumber, room: usize) -> Result<(), Refusal>
     ensures { refusal_of result ≡ (spec.resend office number.0 room).refusal }
 {
-    let stage = office.stage;
-    if !is_live(stage) {
-        return Verdict::Refused(Refusal::OfficeNotOpen);
+    if !is_live(office.stage) {
+        return Err(Refusal::OfficeNotOpen);
     }
-    let n = number.0;
-    let confirmed = office.confirmed.0;
-    if n <= confirmed {
-        return Verdict::Refused(Refusal::NothingToResend);
+    if number <= office.confirmed || office.issued < number {
+        return Err(Refusal::NothingToResend);
     }
-    let issued = office.issued.0;
-    if issued < n {
-        return Verdict::Refused(Refusal::NothingToResend);
-    }
-    if room < FRAME_LIMIT {
-        return Verdict::Refused(Refusal::OutputTooShort);
-    }
-    Verdict::Accepted
+    room_refusal(room)
 }
 
-fn kept_change(window: [Order; WINDOW_LIMIT], n: u16) -> Change
-    requires { 1 ≤ n }
-    ensures { asked result ≡ spec.kept_change window n }
-{
-    let kept = window[(n - 1) as usize % WINDOW_LIMIT];
-    kept.change
-}
-
+// Order n stands at place (n - 1) mod WINDOW_LIMIT of the window.
 fn kept_order(office: Office, number: OrderNumber) -> Frame
-    requires { 1 ≤ number.0 }
     ensures { meaning result ≡ some (view.kept_order office number.0) }
 {
-    let window = office.window;
-    let kept = kept_change(window, number.0);
-    Frame::order(office.session, number, kept)
-}
-
-fn send_order_again(office: Office, number: OrderNumber, out: &mut [u8]) -> Answered
-    requires { (1 ≤ number.0) × (frame_limit ≤ length out.old) }
-    ensures { Gives (turn.wrote office (view.kept_order office number.0)) result out.old out.new }
-{
-    office::send(office, kept_order(office, number), &mut *out)
+    let place = number.0.saturating_sub(1) as usize % WINDOW_LIMIT;
+    Frame::order(office.session, number, office.window[place].change)
 }
 
 // Sends an unanswered order again.
-pub fn resend(office: Office, number: OrderNumber, out: &mut [u8]) -> Answered
+pub fn resend(office: Office, number: OrderNumber, out: &mut [u8]) -> Answered<Office>
     ensures { Gives (spec.resend office number.0 (length out.old)) result out.old out.new }
 {
-    let verdict = resend_refusal(office, number, out.len());
-    match verdict {
-        Verdict::Accepted => send_order_again(office, number, &mut *out),
-        Verdict::Refused(_) => Answered {
-            office,
-            verdict,
-            len: 0,
-        },
+    match resend_refusal(office, number, out.len()) {
+        Ok(()) => office::send(office, kept_order(office, number), out),
+        Err(refusal) => Answered::refused(office, refusal),
     }
 }

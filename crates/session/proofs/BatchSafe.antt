@@ -8,7 +8,7 @@ use mathlib.Core.Option.{Option, none, some, get_or}
 use lib.ListN.{length}
 use lib.Dec.{ltb}
 use Rattle.base.specs.Refusal.{Told}
-use Rattle.base.proofs.Tests.{cond_cases}
+use Rattle.std.proofs.lemmas.Bool.{cond_both}
 use Rattle.frame.specs.Frame.{Change}
 use Rattle.judging.specs.declared.End.TheVariants.{Box}
 use Rattle.judging.specs.Decoding.{decode}
@@ -49,7 +49,7 @@ module _ (box : BoxHistory) (others : ℕ → OfficeHistory) (i : ℕ) where
       ((c : Change) → Memᴰ c (changes orders bytes) → FitsChange c) → OfficeOutcomeSafe box others i l (rule_issue_all o orders bytes room)
   unfolding rule_issue_all
   batch_safe o l safe orders bytes room fits =
-      cond_cases (OfficeOutcomeSafe box others i l) (misfit (data_lengths orders) bytes) _ _ (λ _. safe) (λ _. by_refusal (first_refusal ts))
+      cond_both (misfit (data_lengths orders) bytes) _ _ (OfficeOutcomeSafe box others i l) (λ _. safe) (λ _. by_refusal (first_refusal ts))
     where
       ts : List (Turn OfficeHistory)
       ts = issued_singly o (changes orders bytes) room
@@ -81,8 +81,8 @@ pub run_safe : (h : History) (l : Log) → Safe h l → (lengths bytes : List �
     (t.refusal ≡ none → (f : List ℕ) → Memᴰ f (cut lengths bytes) → Memᴰ f l.from_offices) → BoxOutcomeSafe h l t
 unfolding rule_box_frames
 run_safe h l safe lengths bytes room =
-    cond_cases P (misfit lengths bytes) _ _ (λ _ _. box_kept h l safe none)
-    (λ _. cond_cases P (ltb room (frame_limit * length lengths)) _ _ (λ _ _. box_kept h l safe none)
+    cond_both (misfit lengths bytes) _ _ P (λ _ _. box_kept h l safe none)
+    (λ _. cond_both (ltb room (frame_limit * length lengths)) _ _ P (λ _ _. box_kept h l safe none)
     (λ _ written. frames_safe (cut lengths bytes) h l safe (written refl)))
   where
     P : Outcome BoxHistory → Type 0

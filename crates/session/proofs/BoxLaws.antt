@@ -5,7 +5,7 @@ use mathlib.Core.List.{List}
 use lib.ListN.{length}
 use lib.Dec.{eqb, leb, ltb}
 use borrow.Author.Tests.{le-ltb}
-use Rattle.base.proofs.Tests.{cond_cases}
+use Rattle.std.proofs.lemmas.Bool.{cond_both}
 use Rattle.frame.specs.Frame.{Change, opening, welcome, order, ack, refuse}
 use Rattle.judging.specs.declared.End.TheVariants.{Box}
 use Rattle.judging.specs.Decoding.{Decoded, a_fault, a_frame, decode}
@@ -26,19 +26,19 @@ module _ (c : Cab) where
   opened_short : (s : ℕ) → Short (opened c s)
   unfolding opened opened_again
   opened_short s =
-      cond_cases Short (ltb c.highest.0 s) _ _ (λ _. encode_length (welcome _ _) refl)
-      (λ _. cond_cases Short c.active _ _
-      (λ _. cond_cases Short (eqb s c.highest.0) _ _
-      (λ _. cond_cases Short (eqb c.taken.0 0) _ _ (λ _. encode_length (welcome _ _) refl) (λ _. encode_length (ack _ _) refl)) (λ _. encode_length (refuse _ _) refl))
+      cond_both (ltb c.highest.0 s) _ _ Short (λ _. encode_length (welcome _ _) refl)
+      (λ _. cond_both c.active _ _ Short
+      (λ _. cond_both (eqb s c.highest.0) _ _ Short
+      (λ _. cond_both (eqb c.taken.0 0) _ _ Short (λ _. encode_length (welcome _ _) refl) (λ _. encode_length (ack _ _) refl)) (λ _. encode_length (refuse _ _) refl))
       (λ _. encode_length (refuse _ _) refl))
 
   ordered_short : (s n : ℕ) (change : Change) → Short (ordered c s n change)
   unfolding ordered ordered_here
   ordered_short s n change =
-      cond_cases Short c.active _ _
-      (λ _. cond_cases Short (eqb s c.highest.0) _ _
-      (λ _. cond_cases Short (leb n c.taken.0) _ _ (λ _. encode_length (ack _ _) refl)
-      (λ _. cond_cases Short (eqb (n - c.taken.0) 1) _ _ (λ _. encode_length (ack _ _) refl) (λ _. encode_length (refuse _ _) refl)))
+      cond_both c.active _ _ Short
+      (λ _. cond_both (eqb s c.highest.0) _ _ Short
+      (λ _. cond_both (leb n c.taken.0) _ _ Short (λ _. encode_length (ack _ _) refl)
+      (λ _. cond_both (eqb (n - c.taken.0) 1) _ _ Short (λ _. encode_length (ack _ _) refl) (λ _. encode_length (refuse _ _) refl)))
       (λ _. encode_length (refuse _ _) refl))
       (λ _. encode_length (refuse _ _) refl)
 

@@ -11,7 +11,7 @@ use lib.ListN.{length, get_elem?}
 use lib.Seq.{take_all}
 use lib.Dec.{eqb, leb, ltb}
 use borrow.Author.Tests.{eqb-true, ltb-true}
-use Rattle.base.proofs.Tests.{cond_cases}
+use Rattle.std.proofs.lemmas.Bool.{cond_both}
 use Rattle.settings.specs.Settings.{fresh}
 use Rattle.settings.specs.Range.{Held}
 use Rattle.base.specs.Refusal.{Told, plain}
@@ -186,7 +186,7 @@ module _ (h : History) (l : Log) (safe : Safe h l) where
   again_safe : (i s : ℕ) → NamedBy h.offices i s → FitsSession s → h.box.session ≡ some s →
       BoxTurnSafe h l (cond (eqb (length (h.box.taken s)) 0) (wrote h.box (welcome s h.box.settings)) (wrote h.box (ack s (length (h.box.taken s)))))
   again_safe i s named fits here =
-      cond_cases (BoxTurnSafe h l) (eqb (length (h.box.taken s)) 0) _ _
+      cond_both (eqb (length (h.box.taken s)) 0) _ _ (BoxTurnSafe h l)
       (λ empty. replied none (welcome s h.box.settings) (valid_welcome fits safe.box.held)
       (reply_welcome (session_below s here) (opened_still s here (eqb-true _ _ empty))))
       (λ _. replied_ack i s named fits)
@@ -194,8 +194,8 @@ module _ (h : History) (l : Log) (safe : Safe h l) where
   open_safe : (i s : ℕ) → NamedBy h.offices i s → FitsSession s → BoxTurnSafe h l (rule_open h.box s)
   unfolding rule_open
   open_safe i s named fits =
-      cond_cases (BoxTurnSafe h l) (is_higher h.box s) _ _ (λ e. opened_safe i s named (ltb-true _ _ e) fits)
-      (λ _. cond_cases (BoxTurnSafe h l) (is_open h.box.session s) _ _ (λ e. again_safe i s named fits (open_session _ s e))
+      cond_both (is_higher h.box s) _ _ (BoxTurnSafe h l) (λ e. opened_safe i s named (ltb-true _ _ e) fits)
+      (λ _. cond_both (is_open h.box.session s) _ _ (BoxTurnSafe h l) (λ e. again_safe i s named fits (open_session _ s e))
       (λ _. replied_refuse s 6 fits (omega arith) (omega arith)))
 
   -- ---- the next change of the open session is taken
@@ -279,9 +279,9 @@ module _ (h : History) (l : Log) (safe : Safe h l) where
     unfolding rule_order
     order_safe none _ = replied_refuse s 5 fits (omega arith) (omega arith)
     order_safe (some t) here =
-        cond_cases (BoxTurnSafe h l) (eqb t s) _ _
-        (λ own. cond_cases (BoxTurnSafe h l) (leb n (length (h.box.taken s))) _ _ (λ _. replied_ack i s named fits)
-        (λ _. cond_cases (BoxTurnSafe h l) (eqb n (length (h.box.taken s) + 1)) _ _
+        cond_both (eqb t s) _ _ (BoxTurnSafe h l)
+        (λ own. cond_both (leb n (length (h.box.taken s))) _ _ (BoxTurnSafe h l) (λ _. replied_ack i s named fits)
+        (λ _. cond_both (eqb n (length (h.box.taken s) + 1)) _ _ (BoxTurnSafe h l)
         (λ e. let next : n ≡ length (h.box.taken s) + 1 = eqb-true _ _ e in
         let before : n - 1 ≡ length (h.box.taken s) = omega arith in
         taken_safe i s c named (here ∙ ap {B = Option ℕ} some (eqb-true t s own)) (rw before at issued) n next fits valid)
@@ -308,4 +308,4 @@ module _ (h : History) (l : Log) (safe : Safe h l) where
   pub box_frame_safe : (bytes : List ℕ) (room : ℕ) → Memᴰ bytes l.from_offices →
       BoxTurnSafe h l (cond (ltb room frame_limit) (refused h.box 1) (rule_box_frame h.box (decode Box bytes)))
   box_frame_safe bytes room m =
-      cond_cases (BoxTurnSafe h l) (ltb room frame_limit) _ _ (λ _. box_kept (some (plain 1))) (λ _. frame_safe bytes m)
+      cond_both (ltb room frame_limit) _ _ (BoxTurnSafe h l) (λ _. box_kept (some (plain 1))) (λ _. frame_safe bytes m)

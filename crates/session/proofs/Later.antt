@@ -8,7 +8,7 @@ use mathlib.Core.Option.{Option, none, some, get_or, some-injective, none-ne-som
 use lib.ListN.{length}
 use lib.Dec.{eqb, leb, ltb}
 use borrow.Author.Tests.{eqb-true, ltb-true}
-use Rattle.base.proofs.Tests.{cond_cases}
+use Rattle.std.proofs.lemmas.Bool.{cond_both}
 use Rattle.frame.specs.Frame.{Change, opening, welcome, order, ack, refuse}
 use Rattle.judging.specs.declared.End.TheVariants.{Box}
 use Rattle.judging.specs.Decoding.{Decoded, a_fault, a_frame, decode}
@@ -68,17 +68,17 @@ module _ (b : BoxHistory) (bounded : get_or b.session 0 ≤ b.highest) where
   open_later : (s : ℕ) → LaterTurn b (rule_open b s)
   unfolding rule_open
   open_later s =
-      cond_cases (LaterTurn b) (is_higher b s) _ _ (opened_later s)
-      (λ _. cond_cases (LaterTurn b) (is_open b.session s) _ _
-      (λ _. cond_cases (LaterTurn b) (eqb (length (b.taken s)) 0) _ _ (λ _. kept) (λ _. kept)) (λ _. kept))
+      cond_both (is_higher b s) _ _ (LaterTurn b) (opened_later s)
+      (λ _. cond_both (is_open b.session s) _ _ (LaterTurn b)
+      (λ _. cond_both (eqb (length (b.taken s)) 0) _ _ (LaterTurn b) (λ _. kept) (λ _. kept)) (λ _. kept))
 
   order_later : (session : Option ℕ) → b.session ≡ session → (s n : ℕ) (c : Change) → LaterTurn b (rule_order session b s n c)
   unfolding rule_order
   order_later none _ s n c = kept
   order_later (some t) here s n c =
-      cond_cases (LaterTurn b) (eqb t s) _ _
-      (λ own. cond_cases (LaterTurn b) (leb n (length (b.taken s))) _ _ (λ _. kept)
-      (λ _. cond_cases (LaterTurn b) (eqb n (length (b.taken s) + 1)) _ _
+      cond_both (eqb t s) _ _ (LaterTurn b)
+      (λ own. cond_both (leb n (length (b.taken s))) _ _ (LaterTurn b) (λ _. kept)
+      (λ _. cond_both (eqb n (length (b.taken s) + 1)) _ _ (LaterTurn b)
       (λ _. taken_later s c (here ∙ ap {B = Option ℕ} some (eqb-true t s own))) (λ _. kept)))
       (λ _. kept)
 
@@ -120,8 +120,8 @@ unfolding rule_box_frames
 still_after b bounded (restart told) right =
     λ s closed. let below = closed.0 in ((omega (arith, right), λ here. none-ne-some s here), refl)
 still_after b bounded (box_frame bytes room) _ =
-    cond_cases (λ (t : Turn BoxHistory). Still b t.state) (ltb room frame_limit) _ _ (λ _. still_kept b) (λ _. (frame_later b bounded (decode Box bytes)).still)
+    cond_both (ltb room frame_limit) _ _ (λ (t : Turn BoxHistory). Still b t.state) (λ _. still_kept b) (λ _. (frame_later b bounded (decode Box bytes)).still)
 still_after b bounded (box_frames lengths bytes room) _ =
-    cond_cases (λ (t : Outcome BoxHistory). Still b t.state) (misfit lengths bytes) _ _ (λ _. still_kept b)
-    (λ _. cond_cases (λ (t : Outcome BoxHistory). Still b t.state) (ltb room (frame_limit * length lengths)) _ _ (λ _. still_kept b)
+    cond_both (misfit lengths bytes) _ _ (λ (t : Outcome BoxHistory). Still b t.state) (λ _. still_kept b)
+    (λ _. cond_both (ltb room (frame_limit * length lengths)) _ _ (λ (t : Outcome BoxHistory). Still b t.state) (λ _. still_kept b)
     (λ _. (frames_later (cut lengths bytes) b bounded).still))

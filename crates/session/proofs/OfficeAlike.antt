@@ -10,7 +10,7 @@ use lib.Seq.{get_or-set_same, get_or-set_other}
 use lib.Dec.{eqb, leb, ltb}
 use borrow.Author.Tests.{eqb-true, eqb-false, leb-true, leb-false, ltb-true}
 use Rattle.base.specs.Refusal.{Told}
-use Rattle.base.proofs.Tests.{cond_cases}
+use Rattle.std.proofs.lemmas.Bool.{cond_both as cond_cases}
 use Rattle.settings.specs.declared.settings.Settings.{Settings}
 use Rattle.settings.specs.Settings.{fresh}
 use Rattle.frame.specs.Frame.{Change, Frame, too_long, opening, welcome, order, ack, refuse}
@@ -195,13 +195,13 @@ sent_again_alike : (h : OfficeHistory) (window : List Order) (m : Option Change)
     (sent_again m h n room)
 unfolding sent_again
 sent_again_alike h window none n room a holds above e =
-    cond_cases (λ t. TurnAlike t (refused h 13)) (leb n (length (orders h))) _ _
+    cond_cases (leb n (length (orders h))) _ _ (λ t. TurnAlike t (refused h 13))
     (λ within. absurd (none-ne-some _ (sym e ∙ holds n above (leb-true n (length (orders h)) within))))
     (λ _. answered_alike a)
 sent_again_alike h window (some c) n room a holds above e =
     let inside : n - 1 < length (orders h) = get_elem?_below (orders h) (n - 1) c e in
     let held : some (kept_change window n) ≡ some c = sym (holds n above (omega arith)) ∙ e in
-    cond_cases (λ t. TurnAlike t (cond (ltb room frame_limit) (refused h 1) (wrote h (order h.session n c)))) (leb n (length (orders h))) _ _
+    cond_cases (leb n (length (orders h))) _ _ (λ t. TurnAlike t (cond (ltb room frame_limit) (refused h 1) (wrote h (order h.session n c))))
     (λ _. cond_both TurnAlike (ltb room frame_limit) (λ _. answered_alike a)
     (λ _. record { states = a; same_refusal = refl; same_frame = ap (λ (d : Change). some (order h.session n d)) (some-injective _ _ held) }))
     (λ beyond. absurd (omega (arith, leb-false n (length (orders h)) beyond)))

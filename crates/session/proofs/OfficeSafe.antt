@@ -9,7 +9,8 @@ use mathlib.Core.Option.{Option, none, some, none-ne-some}
 use lib.ListN.{length, get_elem?}
 use lib.Dec.{eqb, leb, ltb}
 use borrow.Author.Tests.{eqb-true, eqb-false, ltb-true, ltb-false}
-use Rattle.base.proofs.Tests.{cond_cases, both_true}
+use Rattle.base.proofs.Tests.{both_true}
+use Rattle.std.proofs.lemmas.Bool.{cond_both as cond_cases}
 use Rattle.settings.specs.declared.settings.Settings.{Settings}
 use Rattle.frame.specs.Frame.{too_long, Change, command, raise, lower, ValidChange, valid_command, valid_raise, valid_lower, Frame, opening, welcome, order, ack, refuse}
 use Rattle.link.specs.Encoding.{encode, Valid, valid_opening, valid_order}
@@ -195,8 +196,8 @@ module _ (box : BoxHistory) (others : ℕ → OfficeHistory) (i : ℕ) where
     pub opening_safe : (s room : ℕ) → FitsSession s → OpeningTurnSafe l s (rule_opening o s room)
     unfolding rule_opening
     opening_safe s room fits =
-        cond_cases (OpeningTurnSafe l s) (eqb s 0) _ _ (λ _ _. safe)
-        (λ _. cond_cases (OpeningTurnSafe l s) (ltb room frame_limit) _ _ (λ _ _. safe) (λ _ new. named_safe s fits (new refl)))
+        cond_cases (eqb s 0) _ _ (OpeningTurnSafe l s) (λ _ _. safe)
+        (λ _. cond_cases (ltb room frame_limit) _ _ (OpeningTurnSafe l s) (λ _ _. safe) (λ _ new. named_safe s fits (new refl)))
 
     -- ---- a change is issued
 
@@ -263,11 +264,11 @@ module _ (box : BoxHistory) (others : ℕ → OfficeHistory) (i : ℕ) where
     pub issue_safe : (c : Change) (room : ℕ) → FitsChange c → OfficeTurnSafe l (rule_issue o c room)
     unfolding rule_issue
     issue_safe c room fits =
-        cond_cases (OfficeTurnSafe l) (is_live o.stage) _ _
-        (λ while_live. cond_cases (OfficeTurnSafe l) (ltb room frame_limit) _ _ (λ _. safe)
-        (λ _. cond_cases (OfficeTurnSafe l) (too_long c) _ _ (λ _. safe)
-        (λ short. cond_cases (OfficeTurnSafe l) (eqb (length (orders o)) order_limit) _ _ (λ _. safe)
-        (λ below. cond_cases (OfficeTurnSafe l) (leb window_limit (length (orders o) - o.confirmed)) _ _ (λ _. safe)
+        cond_cases (is_live o.stage) _ _ (OfficeTurnSafe l)
+        (λ while_live. cond_cases (ltb room frame_limit) _ _ (OfficeTurnSafe l) (λ _. safe)
+        (λ _. cond_cases (too_long c) _ _ (OfficeTurnSafe l) (λ _. safe)
+        (λ short. cond_cases (eqb (length (orders o)) order_limit) _ _ (OfficeTurnSafe l) (λ _. safe)
+        (λ below. cond_cases (leb window_limit (length (orders o) - o.confirmed)) _ _ (OfficeTurnSafe l) (λ _. safe)
         (λ _. issued_safe c (fitting_valid c fits short) (omega (arith, eqb-false (length (orders o)) order_limit below, (old.sessions o.session).counted)) while_live)))))
         (λ _. safe)
 
@@ -275,7 +276,7 @@ module _ (box : BoxHistory) (others : ℕ → OfficeHistory) (i : ℕ) where
 
     unanswered_order : (n : ℕ) (c : Change) → unanswered o n ≡ some c → (1 ≤ n) × (get_elem? (orders o) (n - 1) ≡ some c)
     unanswered_order n c =
-        cond_cases (λ change. change ≡ some c → (1 ≤ n) × (get_elem? (orders o) (n - 1) ≡ some c)) (ltb o.confirmed n) _ _
+        cond_cases (ltb o.confirmed n) _ _ (λ change. change ≡ some c → (1 ≤ n) × (get_elem? (orders o) (n - 1) ≡ some c))
         (λ above e. (omega (arith, ltb-true), e)) (λ _ e. absurd (none-ne-some c e))
 
     own_order : (n : ℕ) (c : Change) → Memᴰ o.session o.named → get_elem? (orders o) (n - 1) ≡ some c → Request (updated others i o) (order o.session n c)
@@ -288,7 +289,7 @@ module _ (box : BoxHistory) (others : ℕ → OfficeHistory) (i : ℕ) where
     sent_again_safe (some c) n room own e =
         let (positive, nth) = unanswered_order n c e in
         let issued = old.sessions o.session in
-        cond_cases (OfficeTurnSafe l) (ltb room frame_limit) _ _ (λ _. safe)
+        cond_cases (ltb room frame_limit) _ _ (OfficeTurnSafe l) (λ _. safe)
         (λ _. sent_safe (order o.session n c)
         (valid_order old.fits positive (omega (arith, get_elem?_below (orders o) (n - 1) c nth, issued.counted)) (issued.valid (n - 1) c nth))
         (own_order n c own nth))
@@ -296,14 +297,14 @@ module _ (box : BoxHistory) (others : ℕ → OfficeHistory) (i : ℕ) where
     pub resend_safe : (n room : ℕ) → OfficeTurnSafe l (rule_resend o n room)
     unfolding rule_resend
     resend_safe n room =
-        cond_cases (OfficeTurnSafe l) (is_live o.stage) _ _
+        cond_cases (is_live o.stage) _ _ (OfficeTurnSafe l)
         (λ live. sent_again_safe (unanswered o n) n room (old.own (opened_by is_live refl o.stage live)) refl) (λ _. safe)
 
     pub reopen_safe : (room : ℕ) → OfficeTurnSafe l (rule_reopen o room)
     unfolding rule_reopen
     reopen_safe room =
-        cond_cases (OfficeTurnSafe l) (is_awaiting o.stage) _ _
-        (λ waits. cond_cases (OfficeTurnSafe l) (ltb room frame_limit) _ _ (λ _. safe)
+        cond_cases (is_awaiting o.stage) _ _ (OfficeTurnSafe l)
+        (λ waits. cond_cases (ltb room frame_limit) _ _ (OfficeTurnSafe l) (λ _. safe)
         (λ _. sent_safe (opening o.session) (valid_opening old.fits)
         (request_opening {i = i} (own_named o.session (old.own (opened_by is_awaiting refl o.stage waits))))))
         (λ _. safe)
@@ -313,7 +314,7 @@ module _ (box : BoxHistory) (others : ℕ → OfficeHistory) (i : ℕ) where
     welcome_safe : (s : ℕ) (σ : Settings) → Reply box (welcome s σ) → Safe (among (rule_welcome o s σ)) l
     unfolding rule_welcome
     welcome_safe s σ reply =
-        cond_cases (λ x. Safe (among x) l) (welcome_heeded o s) _ _
+        cond_cases (welcome_heeded o s) _ _ (λ x. Safe (among x) l)
         (λ both. let (waits, own) = both_true _ _ both in opened waits (rw (eqb-true s o.session own) at reply)) (λ _. safe)
       where
         welcomed_now : (ℕ → List Change) → OfficeHistory
@@ -338,7 +339,7 @@ module _ (box : BoxHistory) (others : ℕ → OfficeHistory) (i : ℕ) where
     ack_safe : (s k : ℕ) → Reply box (ack s k) → Safe (among (rule_ack o s k)) l
     unfolding rule_ack
     ack_safe s k reply =
-        cond_cases (λ x. Safe (among x) l) (ack_heeded o s k) _ _
+        cond_cases (ack_heeded o s k) _ _ (λ x. Safe (among x) l)
         (λ all. let (lives, own) = both_true _ _ (both_true _ _ (both_true _ _ all).0).0 in news lives (rw (eqb-true s o.session own) at reply)) (λ _. safe)
       where
         news : is_live o.stage ≡ true → Reply box (ack o.session k) → Safe (among (with_confirmed o k)) l
@@ -358,7 +359,7 @@ module _ (box : BoxHistory) (others : ℕ → OfficeHistory) (i : ℕ) where
     unfolding rule_refuse
     refuse_safe s r =
         let g = o.stage in
-        cond_cases (λ x. Safe (among x) l) ((is_awaiting g || is_live g) && eqb s o.session && (eqb r 5 || eqb r 6)) _ _
+        cond_cases ((is_awaiting g || is_live g) && eqb s o.session && (eqb r 5 || eqb r 6)) _ _ (λ x. Safe (among x) l)
         (λ all. ended (both_true _ _ (both_true _ _ all).0).0) (λ _. safe)
       where
         ended : is_awaiting o.stage || is_live o.stage ≡ true → Safe (among (with_end o)) l

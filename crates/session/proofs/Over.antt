@@ -10,7 +10,7 @@ use lib.ListN.{length}
 use lib.Dec.{eqb, leb, ltb}
 use borrow.Author.Tests.{eqb-true, eqb-false, eq-eqb}
 use Rattle.base.specs.Refusal.{Told}
-use Rattle.base.proofs.Tests.{cond_cases}
+use Rattle.std.proofs.lemmas.Bool.{cond_both}
 use Rattle.frame.specs.Frame.{Change, too_long, opening, welcome, order, ack, refuse}
 use Rattle.judging.specs.declared.End.TheVariants.{Office as AtOffice}
 use Rattle.judging.specs.Decoding.{Decoded, a_fault, a_frame, decode}
@@ -42,7 +42,7 @@ is_ended Ended = true
 over_of : (g : Stage) (o : Office) → is_over (office.progress_at g o) ≡ is_ended g
 over_of Unopened o = refl
 over_of Awaiting o = refl
-over_of Live o = cond_cases (λ p. is_over p ≡ false) (eqb o.confirmed.0 o.issued.0) _ _ (λ _. refl) (λ _. refl)
+over_of Live o = cond_both (eqb o.confirmed.0 o.issued.0) _ _ (λ p. is_over p ≡ false) (λ _. refl) (λ _. refl)
 over_of Ended o = refl
 
 live_goes_on : (g : Stage) → office.is_live g ≡ true → false ≡ is_ended g
@@ -67,42 +67,42 @@ module _ (o : Office) where
   unfolding office.issue office.issue_refusal
   issue_same c room =
       let P : Option ℕ → Type 0 = λ m. Same o (office.issue_unless m o c).state in
-      cond_cases P (office.is_live o.stage) _ _
-      (λ lives. cond_cases P (ltb room frame_limit) _ _ (λ _. refl)
-      (λ _. cond_cases P (too_long c) _ _ (λ _. refl)
-      (λ _. cond_cases P (eqb o.issued.0 order_limit) _ _ (λ _. refl)
-      (λ _. cond_cases P (leb window_limit (o.issued.0 - o.confirmed.0)) _ _ (λ _. refl) (λ _. live_goes_on o.stage lives)))))
+      cond_both (office.is_live o.stage) _ _ P
+      (λ lives. cond_both (ltb room frame_limit) _ _ P (λ _. refl)
+      (λ _. cond_both (too_long c) _ _ P (λ _. refl)
+      (λ _. cond_both (eqb o.issued.0 order_limit) _ _ P (λ _. refl)
+      (λ _. cond_both (leb window_limit (o.issued.0 - o.confirmed.0)) _ _ P (λ _. refl) (λ _. live_goes_on o.stage lives)))))
       (λ _. refl)
 
   resend_same : (n room : ℕ) → Same o (office.resend o n room).state
   unfolding office.resend
   resend_same n room =
       let P : Turn Office → Type 0 = λ t. Same o t.state in
-      cond_cases P (office.is_live o.stage) _ _
-      (λ _. cond_cases P (ltb o.confirmed.0 n) _ _
-      (λ _. cond_cases P (leb n o.issued.0) _ _
-      (λ _. cond_cases P (ltb room frame_limit) _ _ (λ _. refl) (λ _. refl)) (λ _. refl)) (λ _. refl))
+      cond_both (office.is_live o.stage) _ _ P
+      (λ _. cond_both (ltb o.confirmed.0 n) _ _ P
+      (λ _. cond_both (leb n o.issued.0) _ _ P
+      (λ _. cond_both (ltb room frame_limit) _ _ P (λ _. refl) (λ _. refl)) (λ _. refl)) (λ _. refl))
       (λ _. refl)
 
   reopen_same : (room : ℕ) → Same o (office.reopen o room).state
   unfolding office.reopen
   reopen_same room =
       let P : Turn Office → Type 0 = λ t. Same o t.state in
-      cond_cases P (office.is_awaiting o.stage) _ _ (λ _. cond_cases P (ltb room frame_limit) _ _ (λ _. refl) (λ _. refl)) (λ _. refl)
+      cond_both (office.is_awaiting o.stage) _ _ P (λ _. cond_both (ltb room frame_limit) _ _ P (λ _. refl) (λ _. refl)) (λ _. refl)
 
   welcomed_same : (s : ℕ) (σ : _) → Same o (office.welcomed o s σ)
   unfolding office.welcomed
   welcomed_same s σ =
-      cond_cases (Same o) (office.is_awaiting o.stage) _ _
-      (λ waits. cond_cases (Same o) (eqb s o.session.0) _ _ (λ _. awaiting_goes_on o.stage waits) (λ _. refl)) (λ _. refl)
+      cond_both (office.is_awaiting o.stage) _ _ (Same o)
+      (λ waits. cond_both (eqb s o.session.0) _ _ (Same o) (λ _. awaiting_goes_on o.stage waits) (λ _. refl)) (λ _. refl)
 
   acknowledged_same : (s k : ℕ) → Same o (office.acknowledged o s k)
   unfolding office.acknowledged
   acknowledged_same s k =
-      cond_cases (Same o) (office.is_live o.stage) _ _
-      (λ lives. cond_cases (Same o) (eqb s o.session.0) _ _
-      (λ _. cond_cases (Same o) (ltb o.confirmed.0 k) _ _
-      (λ _. cond_cases (Same o) (leb k o.issued.0) _ _ (λ _. live_goes_on o.stage lives) (λ _. refl)) (λ _. refl)) (λ _. refl)) (λ _. refl)
+      cond_both (office.is_live o.stage) _ _ (Same o)
+      (λ lives. cond_both (eqb s o.session.0) _ _ (Same o)
+      (λ _. cond_both (ltb o.confirmed.0 k) _ _ (Same o)
+      (λ _. cond_both (leb k o.issued.0) _ _ (Same o) (λ _. live_goes_on o.stage lives) (λ _. refl)) (λ _. refl)) (λ _. refl)) (λ _. refl)
 
 orders_same : (cs : List Change) (o : Office) (room : ℕ) → Same o (last_state o (orders_singly o cs room))
 orders_same [] o room = refl
@@ -113,8 +113,8 @@ orders_same (c ∷ cs) o room =
 batch_same : (o : Office) (orders : List BatchOrder) (bytes : List ℕ) (room : ℕ) → Same o (office.issue_all o orders bytes room).state
 unfolding office.issue_all
 batch_same o orders bytes room =
-    cond_cases P (ltb batch_limit (length orders)) _ _ (λ _. refl)
-    (λ _. cond_cases P (fits (data_lengths orders) (length bytes)) _ _ (λ _. rw issue_each_singly (either (first_refusal ts))) (λ _. refl))
+    cond_both (ltb batch_limit (length orders)) _ _ P (λ _. refl)
+    (λ _. cond_both (fits (data_lengths orders) (length bytes)) _ _ P (λ _. rw issue_each_singly (either (first_refusal ts))) (λ _. refl))
   where
     P : Outcome Office → Type 0
     P t = Same o t.state
@@ -176,16 +176,16 @@ module _ (i : ℕ) (e : Ends) where
 
       by_test : (s room : ℕ) → P (office.open_session o s room)
       by_test s room =
-          cond_cases P (eqb s 0) _ _ (λ _ e. absurd (let z : ◌≡◌ {A = ℕ} 0 1 = cc in omega arith))
-          (λ _. cond_cases P (ltb room frame_limit) _ _ (λ _ e. absurd (let z : ◌≡◌ {A = ℕ} 0 1 = cc in omega arith)) (λ _ _. refl))
+          cond_both (eqb s 0) _ _ P (λ _ e. absurd (let z : ◌≡◌ {A = ℕ} 0 1 = cc in omega arith))
+          (λ _. cond_both (ltb room frame_limit) _ _ P (λ _ e. absurd (let z : ◌≡◌ {A = ℕ} 0 1 = cc in omega arith)) (λ _ _. refl))
 
   module _ (bytes : List ℕ) (untold : TellsOver i o (at_office i (office_frame bytes)) → ⊥) where
     refuse_same : (s r : ℕ) → decode AtOffice bytes ≡ a_frame (refuse s r) → Same o (office.ended o s r)
     unfolding office.ended
     refuse_same s r decoded =
-        cond_cases (Same o) (office.is_awaiting o.stage || office.is_live o.stage) _ _
-        (λ _. cond_cases (Same o) (names_session o s) _ _
-        (λ own. cond_cases (Same o) (eqb r 5 || eqb r 6) _ _
+        cond_both (office.is_awaiting o.stage || office.is_live o.stage) _ _ (Same o)
+        (λ _. cond_both (names_session o s) _ _ (Same o)
+        (λ own. cond_both (eqb r 5 || eqb r 6) _ _ (Same o)
         (λ number. absurd (untold (refuse_reaches (decoded ∙ ap (λ (t : ℕ). a_frame (refuse t r)) (eqb-true s o.session.0 own)) (which r number)))) (λ _. refl)) (λ _. refl))
         (λ _. refl)
 
@@ -206,7 +206,7 @@ module _ (i : ℕ) (e : Ends) where
       P t = (refusals (answer_of (alone t)) ≡ [] → ⊥) → Same o t.state
 
       by_test : P (office.open_session o s room)
-      by_test = cond_cases P (eqb s 0) _ _ (λ _ _. refl) (λ _. cond_cases P (ltb room frame_limit) _ _ (λ _ _. refl) (λ _ no_refusal. absurd (no_refusal refl)))
+      by_test = cond_both (eqb s 0) _ _ P (λ _ _. refl) (λ _. cond_both (ltb room frame_limit) _ _ P (λ _ _. refl) (λ _ no_refusal. absurd (no_refusal refl)))
 
   otherwise_same : (c : OfficeCall) → (TellsOver i o (at_office i c) → ⊥) → (OpensAnew i (answer_of (office_rules o c)) (at_office i c) → ⊥) → Same o (office_rules o c).state
   otherwise_same (open_session s room) _ refused = opening_same s room refused

@@ -9,7 +9,7 @@ use lib.Dec.{eqb, leb, ltb}
 use borrow.Author.Tests.{eqb-true, le-ltb}
 use Rattle.base.specs.Bytes.{Bytes}
 use Rattle.base.specs.Refusal.{Fault, Told}
-use Rattle.base.proofs.Tests.{cond_cases}
+use Rattle.std.proofs.lemmas.Bool.{cond_both}
 use Rattle.frame.specs.Frame.{Change, opening, welcome, order, ack, refuse}
 use Rattle.judging.specs.declared.End.{End}
 use Rattle.judging.specs.declared.End.TheVariants.{Box, Office as AtOffice}
@@ -50,19 +50,19 @@ module _ (c : Cab) where
     opened_keeps : (s : ℕ) → decode Box bytes ≡ a_frame (opening s) → FrameKeeps c bytes (opened c s)
     unfolding opened opened_again
     opened_keeps s read =
-        cond_cases (FrameKeeps c bytes) (ltb c.highest.0 s) _ _ (λ _. frame_accepted)
-        (λ _. cond_cases (FrameKeeps c bytes) c.active _ _
-        (λ _. cond_cases (FrameKeeps c bytes) (eqb s c.highest.0) _ _
-        (λ _. cond_cases (FrameKeeps c bytes) (eqb c.taken.0 0) _ _ (λ _. frame_accepted) (λ _. frame_accepted)) (λ _. open_refused read))
+        cond_both (ltb c.highest.0 s) _ _ (FrameKeeps c bytes) (λ _. frame_accepted)
+        (λ _. cond_both c.active _ _ (FrameKeeps c bytes)
+        (λ _. cond_both (eqb s c.highest.0) _ _ (FrameKeeps c bytes)
+        (λ _. cond_both (eqb c.taken.0 0) _ _ (FrameKeeps c bytes) (λ _. frame_accepted) (λ _. frame_accepted)) (λ _. open_refused read))
         (λ _. open_refused read))
 
     ordered_keeps : (s n : ℕ) (change : Change) → decode Box bytes ≡ a_frame (order s n change) → FrameKeeps c bytes (ordered c s n change)
     unfolding ordered ordered_here
     ordered_keeps s n change read =
-        cond_cases (FrameKeeps c bytes) c.active _ _
-        (λ _. cond_cases (FrameKeeps c bytes) (eqb s c.highest.0) _ _
-        (λ own. cond_cases (FrameKeeps c bytes) (leb n c.taken.0) _ _ (λ _. frame_accepted)
-        (λ _. cond_cases (FrameKeeps c bytes) (eqb (n - c.taken.0) 1) _ _ (λ _. frame_accepted)
+        cond_both c.active _ _ (FrameKeeps c bytes)
+        (λ _. cond_both (eqb s c.highest.0) _ _ (FrameKeeps c bytes)
+        (λ own. cond_both (leb n c.taken.0) _ _ (FrameKeeps c bytes) (λ _. frame_accepted)
+        (λ _. cond_both (eqb (n - c.taken.0) 1) _ _ (FrameKeeps c bytes) (λ _. frame_accepted)
         (λ _. order_refused (read ∙ ap (λ (t : ℕ). a_frame (order t n change)) (eqb-true _ _ own)) (omega arith) (omega arith))))
         (λ _. order_refused read (omega arith) (omega arith)))
         (λ _. order_refused read (omega arith) (omega arith))
@@ -82,7 +82,7 @@ module _ (c : Cab) where
   framed_keeps : (bytes : List ℕ) (room : ℕ) → BoxKeeps c (box_frame bytes room) (alone (frame_in c bytes room))
   unfolding frame_in
   framed_keeps bytes room =
-      cond_cases (λ t. BoxKeeps c (box_frame bytes room) (alone t)) (ltb room frame_limit) _ _ (λ _. output_short) (λ _. frame_judged (frame_keeps bytes))
+      cond_both (ltb room frame_limit) _ _ (λ t. BoxKeeps c (box_frame bytes room) (alone t)) (λ _. output_short) (λ _. frame_judged (frame_keeps bytes))
 
 -- ---- the office
 
@@ -93,8 +93,8 @@ module _ (o : Office) where
   open_keeps : (s room : ℕ) → Keeps (open_session s room) (office.open_session o s room)
   unfolding office.open_session
   open_keeps s room =
-      cond_cases (Keeps (open_session s room)) (eqb s 0) _ _ (λ _. opening_refused)
-      (λ _. cond_cases (Keeps (open_session s room)) (ltb room frame_limit) _ _ (λ _. opening_refused) (λ _. accepts))
+      cond_both (eqb s 0) _ _ (Keeps (open_session s room)) (λ _. opening_refused)
+      (λ _. cond_both (ltb room frame_limit) _ _ (Keeps (open_session s room)) (λ _. opening_refused) (λ _. accepts))
 
   issue_keeps : (c : Change) (room : ℕ) (refusal : Option ℕ) → Keeps (issue c room) (office.issue_unless refusal o c)
   issue_keeps c room none = accepts
@@ -104,17 +104,17 @@ module _ (o : Office) where
   unfolding office.resend
   resend_keeps n room =
       let P = Keeps (resend n room) in
-      cond_cases P (office.is_live o.stage) _ _
-      (λ _. cond_cases P (ltb o.confirmed.0 n) _ _
-      (λ _. cond_cases P (leb n o.issued.0) _ _
-      (λ _. cond_cases P (ltb room frame_limit) _ _ (λ _. resending_refused) (λ _. accepts)) (λ _. resending_refused)) (λ _. resending_refused))
+      cond_both (office.is_live o.stage) _ _ P
+      (λ _. cond_both (ltb o.confirmed.0 n) _ _ P
+      (λ _. cond_both (leb n o.issued.0) _ _ P
+      (λ _. cond_both (ltb room frame_limit) _ _ P (λ _. resending_refused) (λ _. accepts)) (λ _. resending_refused)) (λ _. resending_refused))
       (λ _. resending_refused)
 
   reopen_keeps : (room : ℕ) → Keeps (reopen room) (office.reopen o room)
   unfolding office.reopen
   reopen_keeps room =
-      cond_cases (Keeps (reopen room)) (office.is_awaiting o.stage) _ _
-      (λ _. cond_cases (Keeps (reopen room)) (ltb room frame_limit) _ _ (λ _. reopening_refused) (λ _. accepts)) (λ _. reopening_refused)
+      cond_both (office.is_awaiting o.stage) _ _ (Keeps (reopen room))
+      (λ _. cond_both (ltb room frame_limit) _ _ (Keeps (reopen room)) (λ _. reopening_refused) (λ _. accepts)) (λ _. reopening_refused)
 
   read_keeps : (bytes : List ℕ) (m : Decoded) → decode AtOffice bytes ≡ m → Keeps (office_frame bytes) (office.judged o m)
   unfolding office.received
@@ -149,8 +149,8 @@ module _ (o : Office) where
     batch_keeps : BatchKeeps (office.issue_all o orders bytes room)
     unfolding office.issue_all
     batch_keeps =
-        cond_cases BatchKeeps (ltb batch_limit (length orders)) _ _ (λ _. batch_refused)
-        (λ _. cond_cases BatchKeeps (fits (data_lengths orders) (length bytes)) _ _
+        cond_both (ltb batch_limit (length orders)) _ _ BatchKeeps (λ _. batch_refused)
+        (λ _. cond_both (fits (data_lengths orders) (length bytes)) _ _ BatchKeeps
         (λ _. rw issue_each_singly (issued_keeps (orders_singly o (changes orders bytes) room) _ refl)) (λ _. batch_refused))
 
 -- ---- a run of frames
@@ -164,9 +164,9 @@ frames_keep (f ∷ fs) c = one_frame (frame_keeps c f) (frames_keep fs (judged c
 run_keeps : (c : Cab) (lengths bytes : List ℕ) (room : ℕ) → BoxKeeps c (box_frames lengths bytes room) (frames_in c lengths bytes room)
 unfolding frames_in
 run_keeps c lengths bytes room =
-    cond_cases P (ltb batch_limit (length lengths)) _ _ (λ _. run_refused)
-    (λ _. cond_cases P (fits lengths (length bytes)) _ _
-    (λ _. cond_cases P (ltb room (frame_limit * length lengths)) _ _ (λ _. run_refused)
+    cond_both (ltb batch_limit (length lengths)) _ _ P (λ _. run_refused)
+    (λ _. cond_both (fits lengths (length bytes)) _ _ P
+    (λ _. cond_both (ltb room (frame_limit * length lengths)) _ _ P (λ _. run_refused)
     (λ _. rw all_judged_singly (run_judged (frames_keep (cut lengths bytes) c))))
     (λ _. run_refused))
   where

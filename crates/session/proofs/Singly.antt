@@ -9,7 +9,7 @@ use lib.ListN.{length, drop, length-map}
 use lib.Dec.{ltb}
 use borrow.Author.Tests.{eqb-true, eq-eqb, ltb-false, le-ltb, lt-ltb}
 use Rattle.base.specs.Refusal.{Told, plain}
-use Rattle.base.proofs.Tests.{cond_cases}
+use Rattle.std.proofs.lemmas.Bool.{cond_both}
 use Rattle.frame.specs.Frame.{Change}
 use Rattle.judging.specs.declared.End.TheVariants.{Box}
 use Rattle.judging.specs.Decoding.{decode}
@@ -94,8 +94,8 @@ module _ (o : Office) (orders : List BatchOrder) (bytes : List ℕ) (room : ℕ)
   batch_misfits : (Fits (data_lengths orders) bytes → ⊥) → office.issue_all o orders bytes room ≡ refused_whole o (plain 2)
   unfolding office.issue_all
   batch_misfits misfit =
-      cond_cases (λ t. t ≡ refused_whole o (plain 2)) (ltb batch_limit (length orders)) _ _ (λ _. refl)
-      (λ few. cond_cases (λ t. t ≡ refused_whole o (plain 2)) (fits (data_lengths orders) (length bytes)) _ _
+      cond_both (ltb batch_limit (length orders)) _ _ (λ t. t ≡ refused_whole o (plain 2)) (λ _. refl)
+      (λ few. cond_both (fits (data_lengths orders) (length bytes)) _ _ (λ t. t ≡ refused_whole o (plain 2))
       (λ all. absurd (misfit (fitting (data_lengths orders) bytes (ap (ltb batch_limit) (length-map orders _) ∙ few) all))) (λ _. refl))
 
 pub batches_singly : BatchesSingly
@@ -145,8 +145,8 @@ module _ (c : Cab) (lengths bytes : List ℕ) (room : ℕ) where
   run_misfits : (Fits lengths bytes → ⊥) → frames_in c lengths bytes room ≡ refused_whole c (plain 2)
   unfolding frames_in
   run_misfits misfit =
-      cond_cases (λ t. t ≡ refused_whole c (plain 2)) (ltb batch_limit (length lengths)) _ _ (λ _. refl)
-      (λ few. cond_cases (λ t. t ≡ refused_whole c (plain 2)) (fits lengths (length bytes)) _ _
+      cond_both (ltb batch_limit (length lengths)) _ _ (λ t. t ≡ refused_whole c (plain 2)) (λ _. refl)
+      (λ few. cond_both (fits lengths (length bytes)) _ _ (λ t. t ≡ refused_whole c (plain 2))
       (λ all. absurd (misfit (fitting lengths bytes few all))) (λ _. refl))
 
   run_short : Fits lengths bytes → room < frame_limit * length lengths → frames_in c lengths bytes room ≡ refused_whole c (plain 1)

@@ -11,7 +11,7 @@ use lib.ListN.{length, take, get_elem?, length-append, length-take}
 use lib.Seq.{take_all, take-append-le}
 use lib.Dec.{eqb}
 use borrow.Author.Tests.{eqb-true, eqb-false, eq-eqb, ne_eqb}
-use Rattle.base.proofs.Tests.{cond_cases}
+use Rattle.std.proofs.lemmas.Bool.{cond_both}
 use Rattle.frame.specs.Frame.{Frame}
 use Rattle.link.specs.Encoding.{Valid, encode}
 use Rattle.judging.specs.declared.End.{End}
@@ -36,7 +36,7 @@ module _ {A : Type 0} (f : ℕ → A) (s : ℕ) (a : A) where
   -- a property of the new value there and of the old values elsewhere
   pub updated_each : (P : ℕ → A → Type 0) → P s a → ((t : ℕ) → (s ≡ t → ⊥) → P t (f t)) → (t : ℕ) → P t (updated f s a t)
   updated_each P here elsewhere t =
-      cond_cases (P t) (eqb s t) a (f t) (λ e. subst (λ (x : ℕ). P x a) (eqb-true s t e) here) (λ e. elsewhere t (eqb-false s t e))
+      cond_both (eqb s t) a (f t) (P t) (λ e. subst (λ (x : ℕ). P x a) (eqb-true s t e) here) (λ e. elsewhere t (eqb-false s t e))
 
   -- an update by the value that is there
   pub updated_by_own : f s ≡ a → updated f s a ≡ f

@@ -5,7 +5,7 @@ use mathlib.Core.List.Memᴰ
 use mathlib.Core.List.{List, [], ◌∷◌, Memᴰ}
 use native.Mathlib.Omega.{arith}
 use Rattle.frame.specs.Frame.{Change}
-use Rattle.packet.specs.Packet.{total, checksum, escape_byte, escape, fields, packet_of, has_escape}
+use Rattle.packet.specs.Packet.{total, checksum, escape_byte, fields, packet_of, has_escape}
 use Rattle.number.specs.Signed.{offset, magnitude, sign}
 use Rattle.registers.specs.Block.{block, from_block}
 use Rattle.bus.specs.Commands.{lookup, access, write_register, perform_offered, perform_found}
@@ -33,7 +33,7 @@ pub call : {A B : Type 0} → A → B → A × B
 call permitted rest = (permitted, rest)
 
 pub tunnel_settles : TunnelSettles
-unfolding encode decode fault_told rest_fault last_fault field_fault contents_allowed settings_allowed length_right frame_in change_in block from_block offset magnitude sign box.frame_in box.received box.opened box.ordered box.ordered_here box.sent office.open_session office.issue_refusal office.issue office.resend office.welcomed office.acknowledged office.received packet_of fields escape escape_byte checksum total run after start inside feed_at judge after_length after_data perform_found perform_offered write_register lookup access apply has_escape
+unfolding encode decode fault_told rest_fault last_fault field_fault contents_allowed settings_allowed length_right frame_in change_in block from_block offset magnitude sign box.frame_in box.received box.opened box.ordered box.ordered_here box.sent office.open_session office.issue_refusal office.issue office.resend office.welcomed office.acknowledged office.received packet_of fields escape_byte checksum total run after start inside feed_at judge after_length after_data perform_found perform_offered write_register lookup access apply has_escape
 tunnel_settles =
     record {
       allowed =
@@ -66,7 +66,7 @@ each_fits fits d (Memᴰ.tail (Memᴰ.tail (Memᴰ.head e))) = subst FitsChange 
 each_fits fits d (Memᴰ.tail (Memᴰ.tail (Memᴰ.tail m))) = absurd (Memᴰ.not-nil m)
 
 pub batch_tunnel_settles : BatchTunnelSettles
-unfolding encode decode fault_told rest_fault last_fault field_fault contents_allowed settings_allowed length_right frame_in change_in block from_block offset magnitude sign box.frame_in box.received box.opened box.ordered box.ordered_here box.sent office.open_session office.issue_refusal office.issue office.resend office.welcomed office.acknowledged office.received packet_of fields escape escape_byte checksum total run after start inside feed_at judge after_length after_data perform_found perform_offered write_register lookup access apply has_escape box.frames_in office.issue_all office.issue_each fits
+unfolding encode decode fault_told rest_fault last_fault field_fault contents_allowed settings_allowed length_right frame_in change_in block from_block offset magnitude sign box.frame_in box.received box.opened box.ordered box.ordered_here box.sent office.open_session office.issue_refusal office.issue office.resend office.welcomed office.acknowledged office.received packet_of fields escape_byte checksum total run after start inside feed_at judge after_length after_data perform_found perform_offered write_register lookup access apply has_escape box.frames_in office.issue_all office.issue_each fits
 batch_tunnel_settles =
     record {
       allowed =
@@ -86,7 +86,7 @@ batch_tunnel_settles =
     }
 
 pub relief_settles : ReliefSettles
-unfolding encode decode fault_told rest_fault last_fault field_fault contents_allowed settings_allowed length_right frame_in change_in block from_block offset magnitude sign box.frame_in box.received box.opened box.ordered box.ordered_here box.sent office.open_session office.issue_refusal office.issue office.welcomed office.acknowledged office.received packet_of fields escape escape_byte checksum total run after start inside feed_at judge after_length after_data perform_found perform_offered write_register lookup access apply has_escape office.ended rule_open rule_order rule_box_frame rule_opening rule_issue rule_welcome rule_ack rule_refuse rule_office_frame
+unfolding encode decode fault_told rest_fault last_fault field_fault contents_allowed settings_allowed length_right frame_in change_in block from_block offset magnitude sign box.frame_in box.received box.opened box.ordered box.ordered_here box.sent office.open_session office.issue_refusal office.issue office.welcomed office.acknowledged office.received packet_of fields escape_byte checksum total run after start inside feed_at judge after_length after_data perform_found perform_offered write_register lookup access apply has_escape office.ended rule_open rule_order rule_box_frame rule_opening rule_issue rule_welcome rule_ack rule_refuse rule_office_frame
 relief_settles =
     record {
       settles = record {

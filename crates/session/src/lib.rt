@@ -7,6 +7,7 @@ use frame::{Change, OrderNumber, SessionId};
 use settings::Settings;
 
 // The cab box. The highest session is the highest opened, or told at a restart; while active, it is the open one, and taken counts its orders run.
+// Active stands beside taken, since a box with none open and any count is answered too, and a refusal hands it back whole.
 #[derive(Clone, Copy)]
 pub struct Cab {
     pub controller: Controller,
@@ -16,7 +17,7 @@ pub struct Cab {
 }
 
 // Where the office stands with its session. In document 01's words: never opened, opening, open, over.
-#[derive(Clone, Copy)]
+#[derive(Clone, Copy, PartialEq, Eq)]
 pub enum Stage {
     Unopened,
     Awaiting,
@@ -36,7 +37,9 @@ pub struct Order {
     pub change: Change,
 }
 
-// The office. The settings are its own copy, after all orders issued. The window holds the orders issued and not confirmed.
+// The office. The settings are its own copy, after all orders issued. The window holds the orders issued and not confirmed, each at
+// its number's place: an array by value, a form that document 01 asks for.
+// Session and counts stand beside the stage also where it does not use them, since an office with any is answered too, and handed back whole.
 #[derive(Clone, Copy)]
 pub struct Office {
     pub stage: Stage,
@@ -48,7 +51,7 @@ pub struct Office {
 }
 
 // How far the office is with its session: document 01's word. Settled: the box has taken every order issued.
-#[derive(Clone, Copy)]
+#[derive(Clone, Copy, PartialEq, Eq)]
 pub enum Progress {
     Settled,
     Waiting,

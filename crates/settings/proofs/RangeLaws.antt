@@ -1,11 +1,8 @@
 -- The laws of settings that a controller could hold.
-use Prim.Native.Nat.{ℕ, ◌<◌, ◌≤◌, ◌-◌, ◌/◌, ◌%◌}
-use native.Mathlib.Omega.{arith}
-use mathlib.Core.Path.{◌≡◌}
-use mathlib.Core.Bool.{true}
-use lib.Dec.{eqb, leb}
+use Rattle.std.proofs.Common.{◌≡◌, ℕ, ◌<◌, ◌≤◌, ◌-◌, ◌/◌, ◌%◌, true, eqb, leb, arith}
+use Rattle.std.proofs.lemmas.Bool.{cond_both}
 use borrow.Author.Tests.{leb-true, le-leb}
-use Rattle.base.proofs.Tests.{cond_cases, both_true}
+use Rattle.base.proofs.Tests.{both_true}
 use Rattle.settings.specs.declared.settings.Settings.{Settings}
 use Rattle.settings.specs.declared.settings.Switches.{Switches}
 use Rattle.settings.specs.declared.settings.StatusBytes.{StatusBytes}
@@ -59,8 +56,8 @@ fresh_held = search arith
 set_bit_below : (b w : ℕ) → b < 256 → w ≤ 255 → set_bit b w < 256
 unfolding set_bit
 set_bit_below b w hb hw =
-    cond_cases (λ (x : ℕ). x < 256) (eqb (b / w % 2) 1) _ _ (λ e. hb)
-    (λ e. cond_cases (λ (x : ℕ). x < 256) (leb b (255 - w)) _ _ (λ f. omega (arith, leb-true b (255 - w) f)) (λ f. hb))
+    cond_both (eqb (b / w % 2) 1) _ _ (λ (x : ℕ). x < 256) (λ _. hb)
+    (λ _. cond_both (leb b (255 - w)) _ _ (λ (x : ℕ). x < 256) (λ f. omega (arith, leb-true b (255 - w) f)) (λ _. hb))
 
 with_flag_held : (s : StatusBytes) (flag : Flag) → StatusHeld s → StatusHeld (with_flag s flag)
 with_flag_held s Incomplete h = search (set_bit_below _ 0x08 h.first (omega arith))

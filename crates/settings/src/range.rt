@@ -17,28 +17,23 @@ pub const SIGN_LIMIT: u8 = 1;
 // Of the sensor gain.
 pub const GAIN_LIMIT: u8 = 3;
 
-fn switches_in_range(switches: Switches) -> bool
-    ensures { result ≡ spec.switches_in_range switches }
-{
-    if SWITCH_LIMIT < switches.master {
-        return false;
+impl Switches {
+    fn in_range(self) -> bool
+        ensures { result ≡ spec.switches_in_range self }
+    {
+        self.master <= SWITCH_LIMIT
+            && self.park <= SWITCH_LIMIT
+            && self.splash <= SWITCH_LIMIT
+            && self.strength <= STRENGTH_LIMIT
     }
-    if SWITCH_LIMIT < switches.park {
-        return false;
-    }
-    if SWITCH_LIMIT < switches.splash {
-        return false;
-    }
-    switches.strength <= STRENGTH_LIMIT
 }
 
-fn calibration_in_range(calibration: Calibration) -> bool
-    ensures { result ≡ spec.calibration_in_range calibration }
-{
-    if SWITCH_LIMIT < calibration.mode {
-        return false;
+impl Calibration {
+    fn in_range(self) -> bool
+        ensures { result ≡ spec.calibration_in_range self }
+    {
+        self.mode <= SWITCH_LIMIT && self.gain <= GAIN_LIMIT
     }
-    calibration.gain <= GAIN_LIMIT
 }
 
 impl Settings {
@@ -46,14 +41,6 @@ impl Settings {
     pub fn in_range(self) -> bool
         ensures { result ≡ spec.in_range self }
     {
-        let switches = self.switches;
-        let heater = self.heater;
-        if DUTY_LIMIT < heater.duty {
-            return false;
-        }
-        if switches_in_range(switches) {
-            return calibration_in_range(self.calibration);
-        }
-        false
+        self.switches.in_range() && self.heater.duty <= DUTY_LIMIT && self.calibration.in_range()
     }
 }

@@ -1,166 +1,129 @@
 // The arguments of a call: numbers, bytes, and how a line ends.
 use crate::asked;
-use crate::asked::{Action, Asked, Fault, Lent, Range};
-use crate::buffers::Memory;
-use crate::frames::GIVEN;
+use crate::asked::{Action, Asked, Fault};
+use crate::frames::Memory;
 use packet::PACKET_LIMIT;
-use text::{DecimalRead, HexByte};
+use std::alloc::AllocError;
 
+// What is left of a line; no space stands at its front.
 #[derive(Clone, Copy)]
-pub(crate) enum NumberRead {
-    Of(u64),
-    Wrong(Fault),
+pub(crate) struct Words<'a> {
+    rest: &'a [u8],
 }
 
-// How many bytes were read, and where the first word stands that is none.
-#[derive(Clone, Copy)]
-pub(crate) struct Given {
-    pub len: usize,
-    pub end: usize,
-}
-
-// How a line ends: in `into N`, or not; or in something wrong.
-#[derive(Clone, Copy)]
-pub(crate) enum Ending {
-    Of(Lent),
-    Wrong(Fault),
-}
-
-// Which word of a row this one is, counted from 0; how many they are where it is none.
-pub(crate) fn which(word: &[u8], row: &[u8]) -> usize {
-    let mut n: usize = 0;
-    let mut at: usize = 0;
-    while at < row.len() {
-        let end = text::find(row, at, b' ');
-        if word == text::part(row, at, end) {
-            return n;
+impl<'a> Words<'a> {
+    pub(crate) fn new(line: &'a [u8]) -> Words<'a> {
+        Words {
+            rest: text::skip_spaces(line),
         }
-        n = std::num::wrapping_add_usize(n, 1);
-        let next = std::num::wrapping_add_usize(end, 1);
-        // never so: the test shows that the loop ends
-        if next <= at {
-            return n;
-        }
-        at = next;
     }
-    n
-}
 
-// The number that a word writes, up to a limit.
-pub(crate) fn number_of(word: &[u8], limit: u64) -> NumberRead {
-    match text::decimal(word) {
-        DecimalRead::Of(n) => {
-            if limit < n {
-                return NumberRead::Wrong(Fault::OutOfRange);
+    pub(crate) fn rest(&self) -> &'a [u8] {
+        self.rest
+    }
+
+    pub(crate) fn is_empty(&self) -> bool {
+        self.rest.is_empty()
+    }
+
+    // The next word, which stays.
+    pub(crate) fn peek(&self) -> &'a [u8] {
+        text::word(self.rest)
+    }
+
+    // The next word; an empty one where the line has ended.
+    pub(crate) fn next(&mut self) -> &'a [u8] {
+        let word = text::word(self.rest);
+        self.rest = text::after_word(self.rest);
+        word
+    }
+
+    pub(crate) fn number(&mut self, limit: u64) -> Result<u64, Fault> {
+        let n = text::decimal(self.next())?;
+        if n > limit {
+            return Err(Fault::OutOfRange);
+        }
+        Ok(n)
+    }
+
+    // A number of this type.
+    pub(crate) fn fitting<N: TryFrom<u64>>(&mut self) -> Result<N, Fault>
+    where
+        N::Error: Drop,
+    {
+        N::try_from(self.number(u64::MAX)?).map_err(|_| Fault::OutOfRange)
+    }
+
+    pub(crate) fn hex_byte(&mut self) -> Result<u8, Fault> {
+        text::hex_byte(self.next()).ok_or(Fault::NotBytes)
+    }
+
+    // As many bytes as stand next go behind those given; how many they are.
+    pub(crate) fn bytes(&mut self, given: &mut Vec<u8>) -> Result<usize, AllocError> {
+        let before = given.len();
+        // a proved loop has to end, so the turns are counted: a byte takes a word at least
+        for _ in 0..self.rest.len() {
+            let Some(byte) = text::hex_byte(self.peek()) else {
+                break;
+            };
+            given.push(byte)?;
+            self.next();
+        }
+        Ok(given.len().saturating_sub(before))
+    }
+
+    pub(crate) fn end(&self) -> Result<(), Fault> {
+        if self.is_empty() {
+            return Ok(());
+        }
+        Err(Fault::TooManyWords)
+    }
+
+    // What `into N` at the line's end lends, or nothing; what else stands there is wrong.
+    pub(crate) fn lent(mut self, otherwise: Fault) -> Result<Option<usize>, Fault> {
+        match self.next() {
+            b"" => Ok(None),
+            b"into" => {
+                let n = self.number(PACKET_LIMIT as u64)?;
+                self.end()?;
+                Ok(Some(n as usize))
             }
-            NumberRead::Of(n)
+            _ => Err(otherwise),
         }
-        DecimalRead::NotDigits => NumberRead::Wrong(Fault::NotANumber),
-        DecimalRead::TooLarge => NumberRead::Wrong(Fault::OutOfRange),
     }
-}
-
-// A number that is within its limit, as one of 16 bits; nothing is cut off.
-pub(crate) fn short(n: u64) -> u16 {
-    (n % 65536) as u16
-}
-
-// The same of 32 bits.
-pub(crate) fn long(n: u64) -> u32 {
-    (n % 4294967296) as u32
 }
 
 // A line that ends where its arguments do.
-pub(crate) fn ended(action: Action, s: &[u8]) -> Asked {
-    if s.len() == 0 {
-        return asked::plain(action);
-    }
-    asked::wrong(Fault::TooManyWords)
+pub(crate) fn ended(action: Action, words: Words<'_>) -> Result<Asked, Fault> {
+    words.end()?;
+    Ok(asked::plain(action))
 }
 
-// into N
-fn into(s: &[u8]) -> Ending {
-    match number_of(text::word(s), PACKET_LIMIT as u64) {
-        NumberRead::Of(n) => {
-            if text::after_word(s).len() == 0 {
-                return Ending::Of(Lent::Into(n as usize));
-            }
-            Ending::Wrong(Fault::TooManyWords)
-        }
-        NumberRead::Wrong(fault) => Ending::Wrong(fault),
-    }
-}
-
-pub(crate) fn lent_by(s: &[u8], otherwise: Fault) -> Ending {
-    if s.len() == 0 {
-        return Ending::Of(Lent::Room);
-    }
-    if text::word(s) == b"into".as_slice() {
-        return into(text::after_word(s));
-    }
-    Ending::Wrong(otherwise)
-}
-
-// An action on a line that may end in `into N`; what else stands there is wrong.
-pub(crate) fn lent(action: Action, bytes: Range, s: &[u8], otherwise: Fault) -> Asked {
-    match lent_by(s, otherwise) {
-        Ending::Of(lent) => Asked {
-            action,
-            bytes,
-            lent,
-        },
-        Ending::Wrong(fault) => asked::wrong(fault),
-    }
-}
-
-// One byte more, where the next word is one and finds room.
-fn with_next(s: &[u8], out: &mut [u8], from: usize, read: Given) -> Given {
-    let start = read.end;
-    let end = text::find(s, start, b' ');
-    let HexByte::Of(b) = text::hex_byte(text::part(s, start, end)) else {
-        return read;
-    };
-    let at = std::num::wrapping_add_usize(from, read.len);
-    if out.len() <= at {
-        return read;
-    }
-    out[at] = b;
-    let rest = text::skip_spaces(number::rest(s, end));
-    Given {
-        len: std::num::wrapping_add_usize(read.len, 1),
-        end: std::num::wrapping_sub_usize(s.len(), rest.len()),
-    }
-}
-
-// The bytes that s begins with, stored from a place on.
-pub(crate) fn bytes(s: &[u8], out: &mut [u8], from: usize) -> Given {
-    let mut read = Given { len: 0, end: 0 };
-    while read.end < s.len() {
-        let next = with_next(s, &mut *out, from, read);
-        if next.end <= read.end {
-            return read;
-        }
-        read = next;
-    }
-    read
+// An action on a line that may end in `into N`.
+pub(crate) fn lent(action: Action, words: Words<'_>, otherwise: Fault) -> Result<Asked, Fault> {
+    let lent = words.lent(otherwise)?;
+    Ok(Asked { action, lent })
 }
 
 // An action whose arguments are bytes.
-pub(crate) fn with_bytes(action: Action, s: &[u8], memory: &mut Memory) -> Asked {
-    let read = bytes(s, &mut *memory, GIVEN);
-    if read.end < s.len() {
-        return asked::wrong(Fault::NotBytes);
+pub(crate) fn with_bytes(
+    action: Action,
+    mut words: Words<'_>,
+    memory: &mut Memory,
+) -> Result<Asked, Fault> {
+    words.bytes(&mut memory.given)?;
+    if !words.is_empty() {
+        return Err(Fault::NotBytes);
     }
-    Asked {
-        action,
-        bytes: asked::given(read.len),
-        lent: Lent::Room,
-    }
+    Ok(asked::plain(action))
 }
 
 // The same, on a line that may end in `into N`.
-pub(crate) fn lent_with_bytes(action: Action, s: &[u8], memory: &mut Memory) -> Asked {
-    let read = bytes(s, &mut *memory, GIVEN);
-    let rest = number::rest(s, read.end);
-    lent(action, asked::given(read.len), rest, Fault::NotBytes)
+pub(crate) fn lent_with_bytes(
+    action: Action,
+    mut words: Words<'_>,
+    memory: &mut Memory,
+) -> Result<Asked, Fault> {
+    words.bytes(&mut memory.given)?;
+    lent(action, words, Fault::NotBytes)
 }

@@ -1,24 +1,48 @@
 // What a line asks for.
-use crate::buffers::Memory;
-use crate::frames::GIVEN;
+use base::Refusal;
+use bus::Register;
 use calls::Call;
 use frame::SessionId;
 use judging::End;
 use packet::Access;
+use std::alloc::AllocError;
+use text::DecimalError;
+use thiserror::Error;
 
 // What can be wrong with a line.
-#[derive(Clone, Copy)]
+#[derive(Clone, Copy, Debug, PartialEq, Eq, Error)]
 pub(crate) enum Fault {
+    #[error("line too long")]
     TooLong,
+    #[error("not a call")]
     NotACall,
+    #[error("not a number")]
     NotANumber,
+    #[error("number out of range")]
     OutOfRange,
+    #[error("not bytes")]
     NotBytes,
+    #[error("no such frame")]
     NoSuchFrame,
+    #[error("not a frame")]
     NotAFrame,
+    #[error("no such register")]
     NoSuchRegister,
+    #[error("not a refusal")]
     NotARefusal,
+    #[error("too many words")]
     TooManyWords,
+    #[error("out of memory")]
+    OutOfMemory(#[from(alloc)] AllocError),
+}
+
+impl From<DecimalError> for Fault {
+    fn from(error: DecimalError) -> Fault {
+        match error {
+            DecimalError::NotDigits => Fault::NotANumber,
+            DecimalError::TooLarge => Fault::OutOfRange,
+        }
+    }
 }
 
 // Whose settings are told, or whose receiver is given bytes.
@@ -29,37 +53,6 @@ pub(crate) enum Holder {
     Office,
 }
 
-// The switches of the settings.
-#[derive(Clone, Copy)]
-pub(crate) enum Switch {
-    Master,
-    Park,
-    Splash,
-    Strength,
-}
-
-// The calibration registers.
-#[derive(Clone, Copy)]
-pub(crate) enum Calibrated {
-    Mode,
-    Red,
-    Green,
-    Blue,
-    Limit,
-    Gain,
-}
-
-#[derive(Clone, Copy)]
-pub(crate) enum Register {
-    Backlight,
-    Switch(Switch),
-    Heater,
-    Bezel,
-    Pixels,
-    Calibration(Calibrated),
-    Status,
-}
-
 // What is told of both ends and of the bench.
 #[derive(Clone, Copy)]
 pub(crate) enum Told {
@@ -68,13 +61,6 @@ pub(crate) enum Told {
     Progress,
     Held(Holder, Register),
     Dropped,
-}
-
-// What is printed of the bytes that the controller on the bench sends: all, or the reply among them.
-#[derive(Clone, Copy)]
-pub(crate) enum Heard {
-    All,
-    Reply(Access),
 }
 
 // What is made of the bytes given alone.
@@ -93,11 +79,9 @@ pub(crate) enum Made {
 #[derive(Clone, Copy)]
 pub(crate) enum Said {
     Nothing,
-    Wrong(Fault),
     Told(Told),
     Made(Made),
-    // A refusal's number, and the offset that it tells, if it tells one.
-    Explained(u64, u64),
+    Explained(Refusal),
 }
 
 // What changes something, and is no call at box or office alone.
@@ -105,7 +89,8 @@ pub(crate) enum Said {
 pub(crate) enum Task {
     Many(u16),
     Room(usize),
-    Bus(Heard),
+    // Of the bytes that the controller on the bench sends all are printed, or the reply among them.
+    Bus(Option<Access>),
     Restart(SessionId),
     // In pieces of so many bytes.
     Stream(Holder, usize),
@@ -119,67 +104,30 @@ pub(crate) enum OfficesTask {
     Fresh,
 }
 
-// What a batch of orders, or a run of frames, is made of.
+// A batch of orders, or a run of frames.
 #[derive(Clone, Copy)]
 pub(crate) enum Several {
     Orders,
     Frames,
-    // Frames that the offices wrote.
-    Carried,
-    // Lengths and bytes apart.
-    Cut,
 }
 
 #[derive(Clone, Copy)]
 pub(crate) enum Action {
     Call(Call),
-    // The arguments stand in the line.
     Several(Several),
     Task(Task),
     Offices(OfficesTask),
     Say(Said),
 }
 
-// The output that a call is lent: as long as `room` says, or as long as `into` at the line's end says.
-#[derive(Clone, Copy)]
-pub(crate) enum Lent {
-    Room,
-    Into(usize),
-}
-
-// Bytes of the memory.
-#[derive(Clone, Copy)]
-pub(crate) struct Range {
-    pub from: usize,
-    pub len: usize,
-}
-
 #[derive(Clone, Copy)]
 pub(crate) struct Asked {
     pub action: Action,
-    pub bytes: Range,
-    pub lent: Lent,
-}
-
-// The bytes that the line itself gives.
-pub(crate) fn given(len: usize) -> Range {
-    Range { from: GIVEN, len }
-}
-
-pub(crate) fn bytes(memory: &Memory, range: Range) -> &[u8] {
-    let from = range.from;
-    text::part(memory, from, std::num::wrapping_add_usize(from, range.len))
+    // How long an output the call is lent, where the line ends in `into N`.
+    pub lent: Option<usize>,
 }
 
 // An action with nothing behind it.
 pub(crate) fn plain(action: Action) -> Asked {
-    Asked {
-        action,
-        bytes: given(0),
-        lent: Lent::Room,
-    }
-}
-
-pub(crate) fn wrong(fault: Fault) -> Asked {
-    plain(Action::Say(Said::Wrong(fault)))
+    Asked { action, lent: None }
 }

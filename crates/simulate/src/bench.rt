@@ -1,14 +1,11 @@
-// What the controller on the bench sends.
-use crate::asked::Heard;
-use crate::buffers::Output;
+// What the controller on the bench sends: all of it, or the reply among it.
+use crate::print::Printed;
 use crate::{packets, print};
+use packet::Access;
 
-pub(crate) fn told(out: &mut Output, at: usize, heard: Heard, sent: &[u8]) -> usize {
-    match heard {
-        Heard::All => print::named_bytes(&mut *out, at, b"bus", sent),
-        Heard::Reply(access) => {
-            let said = packets::reply(&mut *out, at, b"response", b"", access, sent);
-            print::end_line(&mut *out, said)
-        }
+pub(crate) fn told(out: &mut String, reply: Option<Access>, sent: &[u8]) -> Printed {
+    match reply {
+        None => print::named_bytes(out, "bus", sent),
+        Some(access) => packets::response(out, access, sent),
     }
 }

@@ -1,160 +1,89 @@
 // Frames of the link to bytes and back.
-use crate::arguments::{NumberRead, which};
-use crate::asked::{Action, Asked, Fault, Lent, Made, Said};
-use crate::buffers::{LINE_LIMIT, Memory, Output, Page};
-use crate::frames::GIVEN;
-use crate::{arguments, asked, print};
-use frame::{Change, ChangeMade, Frame, Kind, OrderNumber, SessionId, Verdict};
-use judging::{End, Found};
+use crate::arguments::Words;
+use crate::asked::{Action, Asked, Fault, Made, Said};
+use crate::frames::Memory;
+use crate::print::Printed;
+use crate::{asked, print};
+use frame::{Change, Frame, Kind, OrderNumber, SessionId};
+use judging::End;
 use settings::Settings;
-use text::HexByte;
 
 // encode open S, welcome S, order S N raise N, lower N or command BYTES, ack S N, refuse S N
-pub(crate) fn encode(s: &[u8], memory: &mut Memory) -> Asked {
-    let e = link::encode(named(s));
-    let bytes = e.bytes;
-    let len = e.len;
-    if len == 0 {
-        return asked::wrong(Fault::NotAFrame);
-    }
-    base::store(&bytes, &mut *memory, GIVEN);
-    Asked {
-        action: Action::Say(Said::Made(Made::Encoded)),
-        bytes: asked::given(len),
-        lent: Lent::Room,
-    }
+pub(crate) fn encode(words: Words, memory: &mut Memory) -> Result<Asked, Fault> {
+    let given = &mut memory.given;
+    let frame = named(words, given).ok_or(Fault::NotAFrame)?;
+    given.clear();
+    given.extend_from_slice(link::encode(frame).as_slice())?;
+    Ok(asked::plain(Action::Say(Said::Made(Made::Encoded))))
 }
 
-// The frame that a text names; if it names none, the malformed one, which has no bytes.
-fn named(s: &[u8]) -> Frame {
-    let rest = text::after_word(s);
-    let NumberRead::Of(session) = arguments::number_of(text::word(rest), u32::MAX as u64) else {
-        return Frame::malformed();
-    };
-    of_session(
-        text::word(s),
-        SessionId(arguments::long(session)),
-        text::after_word(rest),
-    )
-}
-
-fn of_session(kind: &[u8], session: SessionId, s: &[u8]) -> Frame {
-    if s.len() == 0 {
-        return without_number(kind, session);
+// The frame that the words name; the data of a command are given.
+fn named(mut words: Words, given: &mut Vec<u8>) -> Option<Frame> {
+    let kind = words.next();
+    let session = SessionId(words.fitting().ok()?);
+    if words.is_empty() {
+        return match kind {
+            b"open" => Some(Frame::opening(session)),
+            b"welcome" => Some(Frame::welcome(session, Settings::fresh())),
+            _ => None,
+        };
     }
-    let NumberRead::Of(n) = arguments::number_of(text::word(s), u16::MAX as u64) else {
-        return Frame::malformed();
-    };
-    numbered(kind, session, arguments::short(n), text::after_word(s))
-}
-
-fn without_number(kind: &[u8], session: SessionId) -> Frame {
-    match which(kind, b"open welcome") {
-        0 => Frame::opening(session),
-        1 => Frame::welcome(session, Settings::fresh()),
-        _ => Frame::malformed(),
-    }
-}
-
-fn numbered(kind: &[u8], session: SessionId, n: u16, s: &[u8]) -> Frame {
+    let number = words.fitting().ok()?;
     if kind == b"order".as_slice() {
-        return order(session, OrderNumber(n), s);
+        return Some(Frame::order(session, OrderNumber(number), change(words, given)?));
     }
-    if 0 < s.len() {
-        return Frame::malformed();
+    if !words.is_empty() {
+        return None;
     }
-    if kind == b"ack".as_slice() {
-        return Frame::ack(session, OrderNumber(n));
-    }
-    if kind == b"refuse".as_slice() {
-        return refuse(session, n);
-    }
-    Frame::malformed()
-}
-
-fn refuse(session: SessionId, n: u16) -> Frame {
-    if 255 < n {
-        return Frame::malformed();
-    }
-    Frame::refuse(session, n as u8)
-}
-
-fn order(session: SessionId, number: OrderNumber, s: &[u8]) -> Frame {
-    let way = text::word(s);
-    let rest = text::after_word(s);
-    if way == b"command".as_slice() {
-        return order_command(session, number, rest);
-    }
-    let NumberRead::Of(n) = arguments::number_of(rest, u16::MAX as u64) else {
-        return Frame::malformed();
-    };
-    let step = arguments::short(n);
-    if way == b"raise".as_slice() {
-        return Frame::order(session, number, Change::raise(step));
-    }
-    if way == b"lower".as_slice() {
-        return Frame::order(session, number, Change::lower(step));
-    }
-    Frame::malformed()
-}
-
-fn order_command(session: SessionId, number: OrderNumber, s: &[u8]) -> Frame {
-    let HexByte::Of(command) = text::hex_byte(text::word(s)) else {
-        return Frame::malformed();
-    };
-    let rest = text::after_word(s);
-    let mut body = [0u8; LINE_LIMIT];
-    let read = arguments::bytes(rest, &mut body, 0);
-    if read.end < rest.len() {
-        return Frame::malformed();
-    }
-    order_of(session, number, commanded(command, &body, read.len))
-}
-
-fn commanded(command: u8, body: &Page, len: usize) -> ChangeMade {
-    Change::command(command, text::part(body, 0, len))
-}
-
-fn order_of(session: SessionId, number: OrderNumber, made: ChangeMade) -> Frame {
-    let verdict = made.verdict;
-    match verdict {
-        Verdict::Accepted => Frame::order(session, number, made.change),
-        Verdict::Refused(_) => Frame::malformed(),
-    }
-}
-
-fn kind_place(kind: Kind) -> usize {
     match kind {
-        Kind::Malformed => 0,
-        Kind::Opening => 1,
-        Kind::Welcome => 2,
-        Kind::Order => 3,
-        Kind::Ack => 4,
-        Kind::Refuse(_) => 5,
+        b"ack" => Some(Frame::ack(session, OrderNumber(number))),
+        b"refuse" => Some(Frame::refuse(session, u8::try_from(number).ok()?)),
+        _ => None,
     }
 }
 
-// The number that a frame has beside its session.
-fn second_number(kind: Kind, number: OrderNumber) -> u64 {
-    if let Kind::Refuse(refusal) = kind {
-        return refusal as u64;
+fn change(mut words: Words, given: &mut Vec<u8>) -> Option<Change> {
+    match words.next() {
+        b"raise" => Some(Change::raise(step(words)?)),
+        b"lower" => Some(Change::lower(step(words)?)),
+        b"command" => command(words, given),
+        _ => None,
     }
-    number.0 as u64
+}
+
+// All of the rest, with any space behind it.
+fn step(words: Words) -> Option<u16> {
+    u16::try_from(text::decimal(words.rest()).ok()?).ok()
+}
+
+fn command(mut words: Words, given: &mut Vec<u8>) -> Option<Change> {
+    let command = words.hex_byte().ok()?;
+    words.bytes(given).ok()?;
+    if !words.is_empty() {
+        return None;
+    }
+    Change::command(command, given.as_slice()).ok()
 }
 
 // decode box BYTES, decode office BYTES
-pub(crate) fn decoded(out: &mut Output, at: usize, end: End, bytes: &[u8]) -> usize {
-    let judged = decoding::decode(end, bytes);
-    let found = judged.found;
-    match found {
-        Found::Nothing => told(&mut *out, at, judged.frame),
-        Found::At(fault, offset) => print::faulty(&mut *out, at, fault, offset),
+pub(crate) fn decoded(out: &mut String, end: End, bytes: &[u8]) -> Printed {
+    match decoding::decode(end, bytes) {
+        Ok(frame) => told(out, frame)?,
+        Err(fault) => print::faulty(out, fault)?,
     }
+    out.push_str("\n")
 }
 
-fn told(out: &mut Output, at: usize, frame: Frame) -> usize {
-    let kind = frame.kind;
-    let n = [frame.session.0 as u64, second_number(kind, frame.number)];
-    let row = b"malformed|open _|welcome _|order _ _|ack _ _|refuse _ _";
-    print::with(&mut *out, at, print::nth(row, kind_place(kind)), &n)
+// A number that is told in several arms is bound first: a format string names variables alone.
+fn told(out: &mut String, frame: Frame) -> Printed {
+    let session = frame.session.0;
+    let number = frame.number.0;
+    match frame.kind {
+        Kind::Malformed => out.push_str("malformed"),
+        Kind::Opening => write!(out, "open {session}"),
+        Kind::Welcome => write!(out, "welcome {session}"),
+        Kind::Order => write!(out, "order {session} {number}"),
+        Kind::Ack => write!(out, "ack {session} {number}"),
+        Kind::Refuse(refusal) => write!(out, "refuse {session} {refusal}"),
+    }
 }

@@ -1,64 +1,115 @@
-// The last frames that each end has written, each in a slot of its length and its bytes: the box's, then those of all offices. Behind
-// them stand the bytes that a line gives, and the frame that a receiver hands on.
-use crate::asked::Range;
-use crate::buffers::{LINE_LIMIT, Memory};
+// What is kept beside the ends: the last frames that they wrote, and what a line gives. Each buffer keeps its allocation, so that hardly a line allocates.
+use crate::whole::LINE_LIMIT;
+use arrayvec::ArrayVec;
 use judging::End;
 use link::FRAME_LIMIT;
-use wrapping::CONTENTS_MOST;
+use outcome::BatchOrder;
+use std::alloc::{AllocError, Global};
+use std::collections::VecDeque;
 
-const KEPT: u64 = 4096;
+const KEPT: usize = 4096;
 
-const SLOT: usize = 1 + FRAME_LIMIT;
-
-const HALF: usize = KEPT as usize * SLOT;
-
-// Where the bytes that a line gives begin.
-pub(crate) const GIVEN: usize = 2 * HALF;
-
-// Where the frame stands that a receiver hands on.
-pub(crate) const HANDED_ON: usize = GIVEN + LINE_LIMIT;
-
-pub(crate) const MEMORY: usize = HANDED_ON + CONTENTS_MOST;
-
-pub(crate) fn none_kept() -> Memory {
-    [0; MEMORY]
+// The last frames that an end wrote, and how many it wrote in all.
+#[derive(Drop)]
+pub(crate) struct Frames {
+    last: VecDeque<ArrayVec<u8, FRAME_LIMIT>>,
+    count: usize,
 }
 
-// Where frame i of an end stands, counted from 0.
-fn slot(end: End, i: u64) -> usize {
-    let at = (i % KEPT) as usize * SLOT;
-    match end {
-        End::Box => at,
-        End::Office => HALF + at,
+impl Frames {
+    fn new(alloc: Global) -> Result<Frames, AllocError> {
+        Ok(Frames {
+            last: VecDeque::with_capacity(alloc, KEPT)?,
+            count: 0,
+        })
+    }
+
+    // Keeps the frame that the end wrote, if it wrote one.
+    pub fn keep(&mut self, frame: &[u8]) -> Result<(), AllocError> {
+        if frame.is_empty() {
+            return Ok(());
+        }
+        // never too long: no frame is longer than the limit
+        let Ok(frame) = ArrayVec::try_from(frame) else {
+            return Ok(());
+        };
+        if self.last.len() >= KEPT {
+            self.last.pop_front();
+        }
+        self.last.push_back(frame)?;
+        self.count = self.count.wrapping_add(1);
+        Ok(())
+    }
+
+    // Frame i of those written, counted from 1, where it is kept.
+    pub fn get(&self, i: usize) -> Option<&[u8]> {
+        let later = self.count.checked_sub(i)?;
+        let place = self.last.len().checked_sub(later)?.checked_sub(1)?;
+        Some(self.last.get(place)?.as_slice())
+    }
+
+    fn clear(&mut self) {
+        self.last.clear();
+        self.count = 0;
     }
 }
 
-// Keeps the frame that an end wrote after so many others.
-pub(crate) fn keep(memory: &mut Memory, end: End, before: u64, frame: &[u8]) {
-    if FRAME_LIMIT < frame.len() {
-        return;
-    }
-    let at = slot(end, before);
-    let len = [frame.len() as u8];
-    base::store(&len, &mut *memory, at);
-    base::store(frame, &mut *memory, std::num::wrapping_add_usize(at, 1));
+// The box's, and those of all offices.
+#[derive(Drop)]
+pub(crate) struct Written {
+    cab: Frames,
+    offices: Frames,
 }
 
-// Frame i of so many, counted from 1; no bytes where it is not kept.
-pub(crate) fn kept(memory: &Memory, end: End, written: u64, i: u64) -> Range {
-    let none = Range { from: 0, len: 0 };
-    if i == 0 {
-        return none;
+impl Written {
+    pub fn new(alloc: Global) -> Result<Written, AllocError> {
+        Ok(Written {
+            cab: Frames::new(alloc)?,
+            offices: Frames::new(alloc)?,
+        })
     }
-    if written < i {
-        return none;
+
+    pub fn by(&self, end: End) -> &Frames {
+        match end {
+            End::Box => &self.cab,
+            End::Office => &self.offices,
+        }
     }
-    if KEPT <= written - i {
-        return none;
+
+    pub fn by_mut(&mut self, end: End) -> &mut Frames {
+        match end {
+            End::Box => &mut self.cab,
+            End::Office => &mut self.offices,
+        }
     }
-    let at = slot(end, i - 1);
-    Range {
-        from: std::num::wrapping_add_usize(at, 1),
-        len: number::byte(memory, at) as usize,
+
+    pub fn clear(&mut self) {
+        self.cab.clear();
+        self.offices.clear();
+    }
+}
+
+// As many items as a line may give.
+const ITEM_LIMIT: usize = LINE_LIMIT / 2;
+
+#[derive(Drop)]
+pub(crate) struct Memory {
+    // The bytes that a line gives, or the frame that it carries.
+    pub given: Vec<u8>,
+    // The orders of a batch, whose data are given.
+    pub orders: Vec<BatchOrder>,
+    // The lengths of a run's frames, which are given.
+    pub lengths: Vec<usize>,
+    pub written: Written,
+}
+
+impl Memory {
+    pub fn new(alloc: Global) -> Result<Memory, AllocError> {
+        Ok(Memory {
+            given: Vec::with_capacity(alloc, LINE_LIMIT)?,
+            orders: Vec::with_capacity(alloc, ITEM_LIMIT)?,
+            lengths: Vec::with_capacity(alloc, ITEM_LIMIT)?,
+            written: Written::new(alloc)?,
+        })
     }
 }

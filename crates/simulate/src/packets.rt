@@ -1,76 +1,72 @@
 // The packet writer and the reply reader.
-use crate::asked::Lent;
-use crate::buffers::Output;
+use crate::print::Printed;
 use crate::{lending, print};
-use base::Written;
 use packet::{Access, PACKET_LIMIT};
-use reply::{Reply, ReplyRead};
+use std::alloc::AllocError;
 
-// packet write ID BYTES, packet read ID BYTES
+// packet write ID BYTES, packet read ID BYTES; behind `into N` the packet's length is told in its place
 pub(crate) fn packet(
-    out: &mut Output,
-    at: usize,
+    out: &mut String,
     id: u8,
     access: Access,
-    lent: Lent,
+    into: Option<usize>,
     bytes: &[u8],
-) -> usize {
-    let n = lending::length(lent, PACKET_LIMIT);
+) -> Printed {
     let mut page = lending::untouched();
-    match packet::write(id, access, bytes, &mut page[0..n]) {
-        Written::Length(len) => {
-            let said = told(&mut *out, at, lent, lending::part(&page, 0, len));
-            lending::told(&mut *out, said, lent, lending::part(&page, len, n))
+    let lent = lending::lent(&mut page, into.unwrap_or(PACKET_LIMIT));
+    let len = match packet::write(id, access, bytes, lent) {
+        Ok(len) => {
+            if into.is_some() {
+                write!(out, "packet of {len} bytes")?;
+            } else {
+                out.push_str("packet")?;
+                print::bytes(out, text::part(lent, 0, len))?;
+            }
+            len
         }
-        Written::Refused(r) => {
-            let said = print::refused(&mut *out, at, r);
-            lending::told(&mut *out, said, lent, lending::part(&page, 0, n))
+        Err(refusal) => {
+            print::refused(out, refusal)?;
+            0
         }
+    };
+    lending::told(out, into, text::part(lent, len, lent.len()))
+}
+
+// reply write BYTES, reply read BYTES: the first reply among the bytes, and where it ends
+pub(crate) fn reply(out: &mut String, access: Access, bytes: &[u8]) -> Printed {
+    match first_reply(out, "reply", access, bytes)? {
+        Some(end) => writeln!(out, " end {end}"),
+        None => out.push('\n'),
     }
 }
 
-// A packet, or behind `into N` its length.
-fn told(out: &mut Output, at: usize, lent: Lent, packet: &[u8]) -> usize {
-    match lent {
-        Lent::Room => {
-            let said = print::all(&mut *out, at, b"packet");
-            print::bytes(&mut *out, said, packet)
-        }
-        Lent::Into(_) => {
-            let n = [packet.len() as u64];
-            print::with(&mut *out, at, b"packet of _ bytes", &n)
-        }
-    }
+// exchange write BYTES, exchange read BYTES: the reply among the bytes sent
+pub(crate) fn response(out: &mut String, access: Access, sent: &[u8]) -> Printed {
+    first_reply(out, "response", access, sent)?;
+    out.push('\n')
 }
 
-// The first reply among the bytes: a word, what was found, and words with the place where it ends.
-pub(crate) fn reply(
-    out: &mut Output,
-    at: usize,
-    word: &[u8],
-    end: &[u8],
+// The first reply among the bytes, behind a word; where it ends, if there is one.
+fn first_reply(
+    out: &mut String,
+    word: &str,
     access: Access,
-    s: &[u8],
-) -> usize {
-    match reply::read_reply(access, s) {
-        ReplyRead::Whole(r) => {
-            let said = print::all(&mut *out, at, word);
-            let told = found(&mut *out, said, r, s);
-            let n = [r.end as u64];
-            print::with(&mut *out, told, end, &n)
+    bytes: &[u8],
+) -> Result<Option<usize>, AllocError> {
+    match reply::read_reply(access, bytes) {
+        Ok(found) => {
+            out.push_str(word)?;
+            print::byte(out, found.response)?;
+            out.push_str(" data")?;
+            print::bytes(
+                out,
+                text::part(number::rest(bytes, found.start), 0, found.count),
+            )?;
+            Ok(Some(found.end))
         }
-        ReplyRead::Refused(r) => print::refused(&mut *out, at, r),
+        Err(refusal) => {
+            print::refused(out, refusal)?;
+            Ok(None)
+        }
     }
-}
-
-fn found(out: &mut Output, at: usize, r: Reply, s: &[u8]) -> usize {
-    let start = r.start;
-    let count = r.count;
-    let said = print::byte(&mut *out, at, r.response);
-    let told = print::all(&mut *out, said, b" data");
-    print::bytes(
-        &mut *out,
-        told,
-        text::part(number::rest(s, start), 0, count),
-    )
 }

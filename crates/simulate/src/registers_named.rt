@@ -1,45 +1,32 @@
 // The registers by name.
-use crate::arguments::which;
-use crate::asked::{Action, Asked, Calibrated, Fault, Holder, Register, Said, Switch, Told};
-use crate::{arguments, asked};
-
-#[derive(Clone, Copy)]
-enum Found {
-    Of(Register),
-    Unknown,
-}
+use crate::arguments;
+use crate::arguments::Words;
+use crate::asked::{Action, Asked, Fault, Holder, Said, Told};
+use bus::Register;
 
 // held REGISTER, box-held REGISTER, office-held REGISTER
-pub(crate) fn held(holder: Holder, s: &[u8]) -> Asked {
-    match named(text::word(s)) {
-        Found::Of(register) => arguments::ended(
-            Action::Say(Said::Told(Told::Held(holder, register))),
-            text::after_word(s),
-        ),
-        Found::Unknown => asked::wrong(Fault::NoSuchRegister),
-    }
+pub(crate) fn held(holder: Holder, mut words: Words<'_>) -> Result<Asked, Fault> {
+    let register = named(words.next())?;
+    arguments::ended(Action::Say(Said::Told(Told::Held(holder, register))), words)
 }
 
-fn named(word: &[u8]) -> Found {
-    match which(
-        word,
-        b"backlight master park splash strength heater bezel pixels calibration red green blue limit gain status",
-    ) {
-        0 => Found::Of(Register::Backlight),
-        1 => Found::Of(Register::Switch(Switch::Master)),
-        2 => Found::Of(Register::Switch(Switch::Park)),
-        3 => Found::Of(Register::Switch(Switch::Splash)),
-        4 => Found::Of(Register::Switch(Switch::Strength)),
-        5 => Found::Of(Register::Heater),
-        6 => Found::Of(Register::Bezel),
-        7 => Found::Of(Register::Pixels),
-        8 => Found::Of(Register::Calibration(Calibrated::Mode)),
-        9 => Found::Of(Register::Calibration(Calibrated::Red)),
-        10 => Found::Of(Register::Calibration(Calibrated::Green)),
-        11 => Found::Of(Register::Calibration(Calibrated::Blue)),
-        12 => Found::Of(Register::Calibration(Calibrated::Limit)),
-        13 => Found::Of(Register::Calibration(Calibrated::Gain)),
-        14 => Found::Of(Register::Status),
-        _ => Found::Unknown,
+fn named(word: &[u8]) -> Result<Register, Fault> {
+    match word {
+        b"backlight" => Ok(Register::Backlight),
+        b"master" => Ok(Register::Master),
+        b"park" => Ok(Register::Park),
+        b"splash" => Ok(Register::Splash),
+        b"strength" => Ok(Register::Strength),
+        b"heater" => Ok(Register::Heater),
+        b"bezel" => Ok(Register::Bezel),
+        b"pixels" => Ok(Register::Pixels),
+        b"calibration" => Ok(Register::CalibrationMode),
+        b"red" => Ok(Register::RedLevel),
+        b"green" => Ok(Register::GreenLevel),
+        b"blue" => Ok(Register::BlueLevel),
+        b"limit" => Ok(Register::CurrentLimit),
+        b"gain" => Ok(Register::SensorGain),
+        b"status" => Ok(Register::Status),
+        _ => Err(Fault::NoSuchRegister),
     }
 }

@@ -1,95 +1,85 @@
-// A line that is whole: what it asks for, and whether its answer is the one that it expects.
-use crate::asked::{Asked, Fault};
-use crate::buffers::{Memory, Output, Page};
-use crate::world::Notes;
-use crate::{asked, lines, print};
+// A line that is whole: its call, and the answer that it expects.
+use crate::asked::Fault;
+use std::alloc::{AllocError, Global};
+use std::io;
+use std::io::Write;
 
-// More than any answer takes, and what it should have been. The longest is that of a line of OPENs to the box's receiver: a WELCOME to
-// each, some 25,000 characters.
-const ANSWER_LIMIT: usize = 28672;
+// The longest line.
+pub(crate) const LINE_LIMIT: usize = 4096;
 
-// Where ` ->` stands, or the end.
-fn arrow(s: &[u8]) -> usize {
-    let at = text::find(s, 0, b'>');
-    let from = std::num::wrapping_sub_usize(at, 2);
-    if text::part(s, from, std::num::wrapping_add_usize(at, 1)) == b" ->".as_slice() {
-        return from;
+// The line that is being read, and its number in the script.
+#[derive(Drop)]
+pub(crate) struct Line {
+    // No more than one byte beyond the limit.
+    text: Vec<u8>,
+    pub number: u64,
+}
+
+impl Line {
+    pub fn new(alloc: Global) -> Result<Line, AllocError> {
+        Ok(Line {
+            text: Vec::with_capacity(alloc, LINE_LIMIT + 1)?,
+            number: 1,
+        })
     }
-    s.len()
-}
 
-// The line has ended: what stands behind `#` is no part of it.
-pub(crate) fn begun(mut notes: Notes, line: &Page, out: &mut Output) -> Notes {
-    let at = print::with_room(&mut *out, notes.gathered, ANSWER_LIMIT);
-    notes.gathered = at;
-    notes.answer = at;
-    notes.line = std::num::wrapping_add_u64(notes.line, 1);
-    let len = text::find(text::part(line, 0, notes.len), 0, b'#');
-    notes.len = len;
-    notes.arrow = arrow(text::part(line, 0, len));
-    notes
-}
-
-pub(crate) fn asked(notes: Notes, line: &Page, memory: &mut Memory) -> Asked {
-    if notes.too_long {
-        return asked::wrong(Fault::TooLong);
+    pub fn extend(&mut self, more: &[u8]) -> Result<(), AllocError> {
+        let room = (LINE_LIMIT + 1).saturating_sub(self.text.len());
+        self.text
+            .extend_from_slice(more.get(..room).unwrap_or(more))
     }
-    let call = text::skip_spaces(text::part(line, 0, notes.arrow));
-    lines::read(call, notes, &mut *memory)
-}
 
-// The line is done, and the next one begins.
-pub(crate) fn ended(mut notes: Notes, line: &Page, out: &mut Output) -> Notes {
-    let len = notes.len;
-    let arrow = notes.arrow;
-    notes.len = 0;
-    notes.too_long = false;
-    if len <= arrow {
-        return notes;
-    }
-    let expected = text::part(line, std::num::wrapping_add_usize(arrow, 3), len);
-    compared(notes, trimmed(expected), &mut *out)
-}
-
-fn end_of_text(s: &[u8]) -> usize {
-    let mut e = s.len();
-    while 0 < e {
-        if s[e - 1] != b' ' {
-            return e;
+    pub fn call(&self) -> Result<&[u8], Fault> {
+        if self.text.len() > LINE_LIMIT {
+            return Err(Fault::TooLong);
         }
-        e -= 1;
+        let (call, _) = self.split();
+        Ok(text::skip_spaces(call))
     }
-    e
+
+    // Whether this is the answer that the line expects, if it expects one. An answer ends in a newline, if there is any.
+    pub fn expects(&self, answer: &str) -> Option<bool> {
+        let expected = self.expected()?;
+        Some(answer.as_bytes().strip_suffix(b"\n").unwrap_or(b"") == expected)
+    }
+
+    pub fn tell_expected(&self, out: &mut Vec<u8>) -> io::Result<()> {
+        write!(out, "line {}: expected ", self.number)?;
+        out.extend_from_slice(self.expected().unwrap_or(b""))?;
+        out.push(b'\n')?;
+        Ok(())
+    }
+
+    fn expected(&self) -> Option<&[u8]> {
+        if self.text.len() > LINE_LIMIT {
+            return None;
+        }
+        let (_, expected) = self.split();
+        expected.map(trimmed)
+    }
+
+    // What stands before ` ->`, and what behind it, if that stands in the line. What stands behind `#` is no part of it.
+    fn split(&self) -> (&[u8], Option<&[u8]>) {
+        let text = self.text.as_slice();
+        let line = text::part(text, 0, text::find(text, 0, b'#'));
+        let at = text::find(line, 0, b'>');
+        let call = text::part(line, 0, at).strip_suffix(b" -");
+        let expected = number::rest(line, at).strip_prefix(b">");
+        match (call, expected) {
+            (Some(call), Some(expected)) => (call, Some(expected)),
+            _ => (line, None),
+        }
+    }
+
+    // The next line begins.
+    pub fn begin_next(&mut self) {
+        self.text.clear();
+        self.number = self.number.wrapping_add(1);
+    }
 }
 
 // Without the spaces around it.
 fn trimmed(s: &[u8]) -> &[u8] {
-    let t = text::skip_spaces(s);
-    text::part(t, 0, end_of_text(t))
-}
-
-// The answer ends in a newline.
-fn compared(mut notes: Notes, expected: &[u8], out: &mut Output) -> Notes {
-    let at = notes.gathered;
-    let end = std::num::wrapping_sub_usize(at, 1);
-    if text::part(&out.bytes, notes.answer, end) == expected {
-        notes.same = std::num::wrapping_add_u64(notes.same, 1);
-        return notes;
-    }
-    notes.other = std::num::wrapping_add_u64(notes.other, 1);
-    notes.gathered = print::expected(&mut *out, at, notes.line, expected);
-    notes
-}
-
-// What is said at the end of a script that expects answers.
-pub(crate) fn tally(notes: Notes, over: bool, out: &mut Output) -> usize {
-    let at = notes.gathered;
-    let n = [notes.same, notes.other];
-    if !over {
-        return at;
-    }
-    if std::num::wrapping_add_u64(notes.same, notes.other) == 0 {
-        return at;
-    }
-    print::with(&mut *out, at, b"_ answers as expected, _ not\n", &n)
+    let behind = s.iter().rev().take_while(|byte| **byte == b' ').count();
+    text::skip_spaces(text::part(s, 0, s.len().saturating_sub(behind)))
 }

@@ -1,94 +1,79 @@
-// What a script's lines change.
+// What a script's lines change at both ends and on the bench.
+use crate::asked::Holder;
+use crate::offices::Offices;
 use bus::Controller;
 use frame::SessionId;
 use link::FRAME_LIMIT;
 use session::Pair;
+use settings::Settings;
 use wrapping::Receiver;
 
 // The longest output that `room` lends.
 pub(crate) const ROOM_LIMIT: usize = 512;
 
-#[derive(Clone, Copy)]
-pub(crate) struct Notes {
-    // How many frames the box has written, how many all offices together, and the highest session opened at the box.
-    pub box_frames: u64,
-    pub office_frames: u64,
-    pub opened: u32,
-    // How long an output the calls are lent.
-    pub room: usize,
-    // How much of what is printed is gathered and not written yet, and where the answer to this line begins.
-    pub gathered: usize,
-    pub answer: usize,
-    // The lines that have ended. Of the next one, len bytes stand in its buffer, unless it is too long. In one that has ended,
-    // ` ->` stands at arrow, or arrow is len.
-    pub line: u64,
-    pub len: usize,
-    pub too_long: bool,
-    pub arrow: usize,
-    // The input has ended.
-    pub over: bool,
-    // How many answers were as expected, and how many not.
-    pub same: u64,
-    pub other: u64,
-}
-
 // Those on the bench, at the box and at the office in use.
-#[derive(Clone, Copy)]
+#[derive(Drop)]
 pub(crate) struct Receivers {
     pub bench: Receiver,
     pub cab: Receiver,
     pub office: Receiver,
 }
 
-// The box and the office in use, the controller on the bench, and the receivers. The other offices are in offices.
-#[derive(Clone, Copy)]
+impl Receivers {
+    pub fn at(&mut self, holder: Holder) -> &mut Receiver {
+        match holder {
+            Holder::Bench => &mut self.bench,
+            Holder::Box => &mut self.cab,
+            Holder::Office => &mut self.office,
+        }
+    }
+}
+
+// The box and the office in use, the controller on the bench, the receivers, and the other offices.
+#[derive(Drop)]
 pub(crate) struct World {
     pub ends: Pair,
     pub bench: Controller,
     pub receivers: Receivers,
-    pub notes: Notes,
+    pub offices: Offices,
+    // The highest session opened at the box.
+    pub opened: u32,
+    // How long an output the calls are lent.
+    pub room: usize,
 }
 
-// The box, the office in use, the bench and the receivers as at the start.
-pub(crate) fn fresh(notes: Notes) -> World {
-    World {
-        ends: Pair {
-            cab: starting::restarted(SessionId(0)),
-            office: starting::never_opened(),
-        },
-        bench: Controller::fresh(),
-        receivers: Receivers {
-            bench: Receiver::new(),
-            cab: Receiver::new(),
-            office: Receiver::new(),
-        },
-        notes,
+impl World {
+    // As at the start: no session opened, office 1 in use.
+    pub fn fresh() -> World {
+        World {
+            ends: Pair {
+                cab: starting::restarted(SessionId(0)),
+                office: starting::never_opened(),
+            },
+            bench: Controller::fresh(),
+            receivers: Receivers {
+                bench: Receiver::new(),
+                cab: Receiver::new(),
+                office: Receiver::new(),
+            },
+            offices: Offices::unopened(),
+            opened: 0,
+            room: FRAME_LIMIT,
+        }
     }
-}
 
-pub(crate) fn first() -> World {
-    fresh(Notes {
-        box_frames: 0,
-        office_frames: 0,
-        opened: 0,
-        room: FRAME_LIMIT,
-        gathered: 0,
-        answer: 0,
-        line: 0,
-        len: 0,
-        too_long: false,
-        arrow: 0,
-        over: false,
-        same: 0,
-        other: 0,
-    })
-}
+    // After a call: the session that the box has open.
+    pub fn note_opened(&mut self) {
+        if self.ends.cab.active {
+            self.opened = self.opened.max(self.ends.cab.highest.0);
+        }
+    }
 
-// No frame written, no session opened, and the output lent at the start.
-pub(crate) fn unwritten(mut notes: Notes) -> Notes {
-    notes.box_frames = 0;
-    notes.office_frames = 0;
-    notes.opened = 0;
-    notes.room = FRAME_LIMIT;
-    notes
+    pub fn settings(&self, holder: Holder) -> Settings {
+        match holder {
+            Holder::Bench => self.bench.settings(),
+            Holder::Box => self.ends.cab.controller.settings(),
+            Holder::Office => self.ends.office.settings,
+        }
+    }
 }

@@ -43,21 +43,11 @@ pub fn never_opened() -> Office
 pub fn is_awaiting(stage: Stage) -> bool
     ensures { result ≡ spec.is_awaiting stage }
 {
-    match stage {
-        Stage::Unopened => false,
-        Stage::Awaiting => true,
-        Stage::Live => false,
-        Stage::Ended => false,
-    }
+    stage == Stage::Awaiting
 }
 
 pub fn is_live(stage: Stage) -> bool
     ensures { result ≡ spec.is_live stage }
 {
-    match stage {
-        Stage::Unopened => false,
-        Stage::Awaiting => false,
-        Stage::Live => true,
-        Stage::Ended => false,
-    }
+    stage == Stage::Live
 }

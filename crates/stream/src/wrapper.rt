@@ -1,8 +1,7 @@
 // A frame wrapped in an outer field.
-ghost use Rattle.std.specs.Prelude.{◌≡◌, ◌++◌};
-ghost use Rattle.std.proofs.lemmas.List.Edits.{sets};
+ghost use Rattle.std.specs.Prelude.{◌≡◌, ◌≤◌, true};
 ghost use Rattle.base.specs.Writes.{Writes};
-ghost use Rattle.wrapping.specs.Wrapping.{fits as fits_length, head, wrapping};
+ghost use Rattle.wrapping.specs.Wrapping.{contents_most, fits as fits_length, wrapping};
 
 use base::{Refusal, Written, store};
 use wrapping::CONTENTS_MOST;
@@ -15,37 +14,28 @@ pub(crate) const OUTER_TAG: u8 = 0x01;
 
 const HEAD: usize = 3;
 
+#[tactic(auto, unfolding(wrapping::specs::Wrapping::fits))]
 pub(crate) fn fits(len: usize) -> bool
-    ensures { result ≡ fits_length len }
+    ensures value { result ≡ fits_length len }
+    ensures within { result ≡ true → len ≤ contents_most }
 {
-    if len == 0 {
-        return false;
-    }
-    len <= CONTENTS_MOST
+    (1..=CONTENTS_MOST).contains(&len)
 }
 
 // Writes the wrapped frame at the start of out. A refusal leaves out as it was.
+#[tactic(auto, unfolding(wrapping::specs::Wrapping::wrapping))]
 pub fn wrap(frame: &[u8], out: &mut [u8]) -> Written
     ensures { Writes (wrapping frame.now) result out.old out.new }
 {
     let len = frame.len();
     if !fits(len) {
-        return Written::Refused(Refusal::DataTooLong);
+        return Err(Refusal::DataTooLong);
     }
     if out.len() < HEAD + len {
-        return Written::Refused(Refusal::OutputTooShort);
+        return Err(Refusal::OutputTooShort);
     }
-    put(frame, len as u16, &mut *out);
-    Written::Length(HEAD + len)
-}
-
-fn put(frame: &[u8], len: u16, out: &mut [u8])
-    ensures { out.new ≡ sets out.old 0 (head len ++ frame.now) }
-{
-    store(
-        &[OUTER_TAG, number::low(len), number::high(len)],
-        &mut *out,
-        0,
-    );
-    store(frame, &mut *out, HEAD);
+    let [low, high] = (len as u16).to_le_bytes();
+    store(&[OUTER_TAG, low, high], out, 0);
+    store(frame, out, HEAD);
+    Ok(HEAD + len)
 }

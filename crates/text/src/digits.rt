@@ -2,72 +2,39 @@
 ghost use Rattle.std.specs.Prelude.{◌≡◌};
 ghost use Rattle.text.specs.Text as spec;
 
-const LARGEST: u64 = 18446744073709551615;
+use thiserror::Error;
 
-#[derive(Clone, Copy)]
-pub enum DecimalRead {
-    Of(u64),
+#[derive(Clone, Copy, Debug, PartialEq, Eq, Error)]
+pub enum DecimalError {
+    #[error("not a decimal number")]
     NotDigits,
+    #[error("more than 64 bits")]
     TooLarge,
 }
 
 // The number that the digits of s write, where s is digits alone and one at least.
-pub fn decimal(s: &[u8]) -> DecimalRead
+pub fn decimal(s: &[u8]) -> Result<u64, DecimalError>
     ensures { result ≡ spec.decimal s.now }
 {
-    if s.len() == 0 {
-        return DecimalRead::NotDigits;
+    if s.is_empty() || !all_digits(s) {
+        return Err(DecimalError::NotDigits);
     }
-    if all_digits(s) {
-        return value(s);
-    }
-    DecimalRead::NotDigits
-}
-
-fn digit(byte: u8) -> bool
-    ensures { result ≡ spec.digit byte }
-{
-    if byte < b'0' {
-        return false;
-    }
-    byte <= b'9'
+    value(s)
 }
 
 fn all_digits(s: &[u8]) -> bool
     ensures { result ≡ spec.all_digits s.now }
 {
-    let mut i: usize = 0;
-    while i < s.len() {
-        if !digit(s[i]) {
-            return false;
-        }
-        i += 1;
-    }
-    true
+    s.iter().all(|byte| byte.is_ascii_digit())
 }
 
-fn digit_value(byte: u8) -> u64
-    ensures { result ≡ spec.digit_value byte }
-{
-    if byte < b'0' {
-        return 0;
-    }
-    (byte - b'0') as u64
-}
-
-fn value(s: &[u8]) -> DecimalRead
+fn value(s: &[u8]) -> Result<u64, DecimalError>
     ensures { result ≡ spec.within_u64 (spec.value_from 0 s.now) }
 {
-    let mut n: u64 = 0;
-    let mut i: usize = 0;
-    while i < s.len() {
-        let d = digit_value(s[i]);
-        // else 10 * n + d fits
-        if (LARGEST - d) / 10 < n {
-            return DecimalRead::TooLarge;
-        }
-        n = 10 * n + d;
-        i += 1;
-    }
-    DecimalRead::Of(n)
+    s.iter().try_fold(0u64, |n, byte| {
+        let digit = u64::from(byte.saturating_sub(b'0'));
+        n.checked_mul(10)
+            .and_then(|tens| tens.checked_add(digit))
+            .ok_or(DecimalError::TooLarge)
+    })
 }

@@ -6,7 +6,7 @@ mod hex;
 mod place;
 mod words;
 
-pub use digits::{DecimalRead, decimal};
-pub use hex::{HexByte, hex_byte};
+pub use digits::{DecimalError, decimal};
+pub use hex::hex_byte;
 pub use place::{find, part};
 pub use words::{after_word, skip_spaces, word};

@@ -2,21 +2,21 @@
 ghost use Rattle.std.specs.Prelude.{◌≡◌};
 ghost use Rattle.text.specs.Text as spec;
 
-use crate::place::{find, part};
+use crate::place::before;
 use number::rest;
 
 // The bytes up to the first space, or all.
 pub fn word(s: &[u8]) -> &[u8]
     ensures { result.now ≡ spec.word s.now }
 {
-    part(s, 0, find(s, 0, b' '))
+    &s[..before(s, b' ')]
 }
 
 // What follows the first word and all spaces behind it.
 pub fn after_word(s: &[u8]) -> &[u8]
     ensures { result.now ≡ spec.after_word s.now }
 {
-    skip_spaces(rest(s, find(s, 0, b' ')))
+    skip_spaces(rest(s, before(s, b' ')))
 }
 
 pub fn skip_spaces(s: &[u8]) -> &[u8]
@@ -29,12 +29,5 @@ pub fn skip_spaces(s: &[u8]) -> &[u8]
 fn spaces(s: &[u8]) -> usize
     ensures { result ≡ spec.spaces s.now }
 {
-    let mut at: usize = 0;
-    while at < s.len() {
-        if s[at] != b' ' {
-            return at;
-        }
-        at += 1;
-    }
-    at
+    s.iter().take_while(|byte| **byte == b' ').count()
 }

@@ -10,16 +10,15 @@ use lib.Dec.{eqb, leb}
 use lib.ListN.{length, drop, set, drop_of_length-le}
 use lib.Seq.{sets, take-append_seam}
 use borrow.Author.Tests.{eq-eqb, ne_eqb, le-leb, lt-leb}
-use Rattle.base.specs.declared.refusal.FrameFault.TheVariants.{WrongLength}
 use Rattle.base.specs.Refusal.{fault}
 use Rattle.base.proofs.Lists.{sets_front}
-use Rattle.base.proofs.Tests.{cond_cases}
+use Rattle.std.proofs.lemmas.Bool.{cond_both}
 use Rattle.wrapping.specs.declared.Event.TheVariants.{Nothing, Frame, Refused}
 use Rattle.wrapping.specs.declared.Place.{Place}
 use Rattle.wrapping.specs.declared.Place.TheVariants.{Tag, LengthLow, LengthHigh, Contents}
 use Rattle.wrapping.specs.declared.Receiver.{Receiver}
 use Rattle.wrapping.specs.Wrapping.{contents_most, outer_tag, fits}
-use Rattle.wrapping.specs.Receiver.{counted, at_tag, skipping, at_length, at_contents, step, moved, after_more, receive}
+use Rattle.wrapping.specs.Receiver.{counted, at_tag, skipping, at_length, at_contents, wrong_length, step, moved, after_more, receive}
 use Rattle.wrapping.specs.Reading.{frame, refused, idle, read}
 use Rattle.wrapping.specs.Theorems.{field_head, Wrappable, BadLength}
 use Rattle.wrapping.proofs.ReceiverLaws.{receive_on, receive_stop, after_twice}
@@ -31,7 +30,7 @@ standing place buffer dropped = record { place = place; buffer = buffer; dropped
 pub unfit : (n : ℕ) → BadLength n → fits n ≡ false
 unfolding fits
 unfit n (inl none) = rw (eq-eqb n 0 none)
-unfit n (inr many) = cond_cases (λ (t : Bool). t ≡ false) (eqb n 0) false (leb n contents_most) (λ _. refl) (λ _. lt-leb n contents_most many)
+unfit n (inr many) = cond_both (eqb n 0) false (leb n contents_most) (λ (t : Bool). t ≡ false) (λ _. refl) (λ _. lt-leb n contents_most many)
 
 pub fit : (n : ℕ) → 1 ≤ n → n ≤ contents_most → fits n ≡ true
 unfolding fits
@@ -70,11 +69,11 @@ module _ (buffer : List ℕ) (dropped n : ℕ) (small : n < 65536) (rest : List 
   length_judged = rw whole
 
   pub length_received : BadLength n →
-      receive (standing Tag buffer dropped) (field_head n ++ rest) ≡ record { receiver = standing (skipping n) buffer dropped; took = 3; event = Refused WrongLength 0 }
+      receive (standing Tag buffer dropped) (field_head n ++ rest) ≡ record { receiver = standing (skipping n) buffer dropped; took = 3; event = Refused wrong_length }
   unfolding at_length
   length_received bad = head_received ∙ ap (after_more 2) (receive_stop _ (n / 256) rest (length_judged ∙ refused_at) refl)
     where
-      refused_at : at_length (standing Tag buffer dropped) n ≡ moved (standing Tag buffer dropped) (skipping n) (Refused WrongLength 0)
+      refused_at : at_length (standing Tag buffer dropped) n ≡ moved (standing Tag buffer dropped) (skipping n) (Refused wrong_length)
       refused_at = rw (unfit n bad)
 
   fitting_received : fits n ≡ true →

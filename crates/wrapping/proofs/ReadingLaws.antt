@@ -16,7 +16,7 @@ use Rattle.wrapping.specs.Wrapping.{outer_tag, fits}
 use Rattle.wrapping.specs.Receiver.{dropped_most, counted, at_tag, at_length, at_contents, step_at, step, is_nothing, after_more, receive}
 use Rattle.wrapping.specs.Reading.{Handed, came_with, came, Reading, earlier, read, calls, given_all}
 use Rattle.wrapping.specs.Theorems.{GivenReads, CutAnyhow, UpToEvent, TakesUpToEvent}
-use Rattle.base.proofs.Tests.{cond_cases}
+use Rattle.std.proofs.lemmas.Bool.{cond_both}
 use Rattle.wrapping.proofs.ReceiverLaws.{either, step_takes}
 
 earlier_twice : (xs ys : List Handed) (t : Reading) → earlier xs (earlier ys t) ≡ earlier (xs ++ ys) t
@@ -31,7 +31,7 @@ counts_on : (place : Place) (r : Receiver) (byte : ℕ) → r.dropped ≤ (step_
 unfolding counted at_tag at_length at_contents
 counts_on Tag r byte =
     either (λ (t : Received). r.dropped ≤ t.receiver.dropped) (eqb byte outer_tag) _ _ (omega arith)
-    (cond_cases (λ (n : ℕ). r.dropped ≤ n) (ltb r.dropped dropped_most) (r.dropped + 1) r.dropped (λ _. omega arith) (λ _. omega arith))
+    (cond_both (ltb r.dropped dropped_most) (r.dropped + 1) r.dropped (λ (n : ℕ). r.dropped ≤ n) (λ _. omega arith) (λ _. omega arith))
 counts_on LengthLow r byte = omega arith
 counts_on (LengthHigh low) r byte = either (λ (t : Received). r.dropped ≤ t.receiver.dropped) (fits (low + byte * 256)) _ _ (omega arith) (omega arith)
 counts_on (Contents n filled) r byte = either (λ (t : Received). r.dropped ≤ t.receiver.dropped) (leb n (filled + 1)) _ _ (omega arith) (omega arith)
@@ -46,7 +46,7 @@ dropped_grows r (byte ∷ bytes) = omega (arith, counts_on r.place r byte, dropp
 nothing_came : (e : Event) (r : Receiver) → is_nothing e ≡ true → came_with e r ≡ []
 nothing_came Nothing r e = refl
 nothing_came (Frame n) r e = absurd (false≢true e)
-nothing_came (Refused why offset) r e = absurd (false≢true e)
+nothing_came (Refused fault) r e = absurd (false≢true e)
 
 -- a call, and what is read behind it
 pub receive_read : (r : Receiver) (bytes : List ℕ) → earlier (came (receive r bytes)) (read (receive r bytes).receiver (drop (receive r bytes).took bytes)) ≡ read r bytes
@@ -55,21 +55,20 @@ receive_read r [] = refl
 receive_read r (byte ∷ bytes) =
     let next = (step r byte).receiver in
     let more : 1 + (receive next bytes).took ≡ suc (receive next bytes).took = omega arith in
-    cond_cases (λ (t : Received). earlier (came t) (read t.receiver (drop t.took (byte ∷ bytes))) ≡ read r (byte ∷ bytes))
-    (is_nothing (step r byte).event) (after_more 1 (receive next bytes)) (step r byte)
+    cond_both (is_nothing (step r byte).event) (after_more 1 (receive next bytes)) (step r byte) (λ (t : Received). earlier (came t) (read t.receiver (drop t.took (byte ∷ bytes))) ≡ read r (byte ∷ bytes))
     (λ e. rw (more, nothing_came (step r byte).event next e) (receive_read next bytes))
     (λ _. rw (step_takes r byte))
 
 takes_some : (r : Receiver) (byte : ℕ) (bytes : List ℕ) → 1 ≤ (receive r (byte ∷ bytes)).took
 unfolding receive
 takes_some r byte bytes =
-    cond_cases (λ (t : Received). 1 ≤ t.took) (is_nothing (step r byte).event) (after_more 1 (receive (step r byte).receiver bytes)) (step r byte)
+    cond_both (is_nothing (step r byte).event) (after_more 1 (receive (step r byte).receiver bytes)) (step r byte) (λ (t : Received). 1 ≤ t.took)
     (λ _. omega arith) (λ _. rw (step_takes r byte) (omega arith))
 
 something_came : (e : Event) (r : Receiver) → is_nothing e ≡ false → came_with e r ≡ [] → ⊥
 something_came Nothing r e = λ _. false≢true (sym e)
 something_came (Frame n) r e = λ none. let z : ◌≡◌ {A = ℕ} 0 1 = cc in omega arith
-something_came (Refused why offset) r e = λ none. let z : ◌≡◌ {A = ℕ} 0 1 = cc in omega arith
+something_came (Refused fault) r e = λ none. let z : ◌≡◌ {A = ℕ} 0 1 = cc in omega arith
 
 before_first : (r : Receiver) (bytes : List ℕ) (k : ℕ) → k < 1 → (read r (take k bytes)).handed ≡ []
 before_first r bytes zero less = refl
@@ -87,7 +86,7 @@ takes_up_to_event r (byte ∷ bytes) =
     let next = (step r byte).receiver in
     let later = takes_up_to_event next bytes in
     let one_more : 1 + (receive next bytes).took ≡ suc (receive next bytes).took = omega arith in
-    cond_cases (UpToEvent r (byte ∷ bytes)) (is_nothing (step r byte).event) (after_more 1 (receive next bytes)) (step r byte)
+    cond_both (is_nothing (step r byte).event) (after_more 1 (receive next bytes)) (step r byte) (UpToEvent r (byte ∷ bytes))
     (λ e. let quiet = nothing_came (step r byte).event next e in record {
       takes = rw (one_more, quiet) later.takes;
       not_before = before_next r byte bytes _ quiet later.not_before;

@@ -12,7 +12,7 @@ use borrow.Author.Tests.{lt-ltb, le-ltb, ltb-true, ltb-false, leb-true, leb-fals
 use Rattle.base.specs.Refusal.{fault}
 use Rattle.base.specs.Result.{Result, accepted}
 use Rattle.base.proofs.Lists.{sets_front}
-use Rattle.base.proofs.Tests.{cond_cases}
+use Rattle.std.proofs.lemmas.Bool.{cond_both}
 use Rattle.wrapping.specs.declared.Place.{Place}
 use Rattle.wrapping.specs.declared.Place.TheVariants.{Tag}
 use Rattle.wrapping.specs.declared.Received.{Received}
@@ -81,7 +81,7 @@ bad_length_skips r at contents bad small =
 counted_least : (n : ℕ) → n ≤ dropped_most → counted n ≡ min (n + 1) dropped_most
 unfolding counted
 counted_least n most =
-    cond_cases (λ m. m ≡ min (n + 1) dropped_most) (ltb n dropped_most) (n + 1) n
+    cond_both (ltb n dropped_most) (n + 1) n (λ m. m ≡ min (n + 1) dropped_most)
     (λ less. omega (arith, ltb-true n dropped_most less)) (λ full. omega (arith, ltb-false n dropped_most full))
 
 record ItemsRead (buffer : List ℕ) (dropped : ℕ) (bytes : List ℕ) (handed : List Handed) (more : ℕ) : Type 0 where
@@ -152,8 +152,8 @@ wrap_answers f room = record {
 wrap_wrote : (f bytes : List ℕ) (room : ℕ) → wrapping f room ≡ accepted bytes → Wrappable f × (bytes ≡ wrapped f)
 unfolding wrapping
 wrap_wrote f bytes room =
-    cond_cases (λ (x : Result (List ℕ)). x ≡ accepted bytes → Wrappable f × (bytes ≡ wrapped f)) (fits (length f)) _ _
-    (λ fitting. cond_cases (λ (x : Result (List ℕ)). x ≡ accepted bytes → Wrappable f × (bytes ≡ wrapped f)) (ltb room (length (wrapped f))) _ _
+    cond_both (fits (length f)) _ _ (λ (x : Result (List ℕ)). x ≡ accepted bytes → Wrappable f × (bytes ≡ wrapped f))
+    (λ fitting. cond_both (ltb room (length (wrapped f))) _ _ (λ (x : Result (List ℕ)). x ≡ accepted bytes → Wrappable f × (bytes ≡ wrapped f))
     (λ _ e. let z : ◌≡◌ {A = ℕ} 0 1 = cc in absurd (omega arith))
     (λ _ e. (fits_within (length f) fitting, cc)))
     (λ _ e. let z : ◌≡◌ {A = ℕ} 0 1 = cc in absurd (omega arith))

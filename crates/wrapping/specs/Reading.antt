@@ -1,6 +1,6 @@
 -- What a receiver hands on along a run of bytes: byte by byte, and as a host calls it.
 use Rattle.std.specs.Prelude.{ℕ, zero, suc, List, [], ◌∷◌, ◌++◌, length, take, drop}
-use Rattle.base.specs.Refusal.{fault_number, Fault, fault}
+use Rattle.base.specs.Refusal.{Fault, fault_of}
 use Rattle.wrapping.specs.declared.Event.{Event}
 use Rattle.wrapping.specs.declared.Event.TheVariants.{Nothing, Frame, Refused}
 use Rattle.wrapping.specs.declared.Received.{Received}
@@ -16,7 +16,7 @@ pub data Handed : Type 0 where
 abbrev pub came_with : Event → Receiver → List Handed
 came_with Nothing r = []
 came_with (Frame n) r = frame (take n r.buffer) ∷ []
-came_with (Refused why offset) r = refused (fault (fault_number why) offset) ∷ []
+came_with (Refused fault) r = refused (fault_of fault) ∷ []
 
 abbrev pub came : Received → List Handed
 came t = came_with t.event t.receiver
@@ -27,7 +27,7 @@ pub record Reading : Type 0 where
   pub handed : List Handed
 
 abbrev pub earlier : List Handed → Reading → Reading
-earlier handed t = record { receiver = t.receiver; handed = handed ++ t.handed }
+earlier handed t = record t { handed = handed ++ t.handed }
 
 abbrev pub idle : Receiver → Reading
 idle r = record { receiver = r; handed = [] }

@@ -1,5 +1,6 @@
 -- The receiver of wrapped frames, byte by byte: document 02, Ask 1. Theorems.antt says the same of whole fields.
 use Rattle.std.specs.Prelude.{ℕ, ◌+◌, ◌*◌, ◌-◌, min, Bool, true, false, cond, List, [], ◌∷◌, set, replicate, eqb, leb, ltb}
+use Rattle.base.specs.declared.refusal.Fault.{Fault}
 use Rattle.base.specs.declared.refusal.FrameFault.TheVariants.{WrongLength}
 use Rattle.wrapping.specs.declared.Event.{Event}
 use Rattle.wrapping.specs.declared.Event.TheVariants.{Nothing, Frame, Refused}
@@ -20,17 +21,17 @@ fresh = record { place = Tag; buffer = replicate contents_most 0; dropped = 0 }
 
 -- the byte taken, with what came
 abbrev pub moved : Receiver → Place → Event → Received
-moved r place event = record { receiver = record { place = place; buffer = r.buffer; dropped = r.dropped }; took = 1; event = event }
+moved r place event = record { receiver = record r { place = place }; took = 1; event = event }
 
 -- one byte more, as far as the count goes
 unfoldable pub counted : ℕ → ℕ
 counted n = cond (ltb n dropped_most) (n + 1) n
 
 abbrev pub dropping : Receiver → Receiver
-dropping r = record { place = r.place; buffer = r.buffer; dropped = counted r.dropped }
+dropping r = record r { dropped = counted r.dropped }
 
 abbrev pub storing : Receiver → ℕ → ℕ → Receiver
-storing r i byte = record { place = r.place; buffer = set r.buffer i byte; dropped = r.dropped }
+storing r i byte = record r { buffer = set r.buffer i byte }
 
 unfoldable pub at_tag : Receiver → ℕ → Received
 at_tag r byte = cond (eqb byte outer_tag) (moved r LengthLow Nothing) (moved (dropping r) Tag Nothing)
@@ -39,9 +40,13 @@ at_tag r byte = cond (eqb byte outer_tag) (moved r LengthLow Nothing) (moved (dr
 unfoldable pub skipping : ℕ → Place
 skipping n = cond (eqb n 0) Tag (Skipped n)
 
--- a length is judged at once; one that is wrong is told at the outer tag
+-- a wrong length's fault is told at the outer tag
+abbrev pub wrong_length : Fault
+wrong_length = record { kind = WrongLength; offset = 0 }
+
+-- a length is judged at once
 unfoldable pub at_length : Receiver → ℕ → Received
-at_length r n = cond (fits n) (moved r (Contents n 0) Nothing) (moved r (skipping n) (Refused WrongLength 0))
+at_length r n = cond (fits n) (moved r (Contents n 0) Nothing) (moved r (skipping n) (Refused wrong_length))
 
 -- byte `filled` of a frame of n bytes
 unfoldable pub at_contents : Receiver → ℕ → ℕ → ℕ → Received
@@ -64,10 +69,10 @@ step r byte = step_at r.place r byte
 abbrev pub is_nothing : Event → Bool
 is_nothing Nothing = true
 is_nothing (Frame n) = false
-is_nothing (Refused why offset) = false
+is_nothing (Refused fault) = false
 
 abbrev pub after_more : ℕ → Received → Received
-after_more n t = record { receiver = t.receiver; took = n + t.took; event = t.event }
+after_more n t = record t { took = n + t.took }
 
 -- up to and with the byte with which something comes
 unfoldable pub receive : Receiver → List ℕ → Received

@@ -5,7 +5,7 @@
 ghost use Rattle.std.specs.Prelude.{◌≡◌};
 ghost use Rattle.wrapping.specs.Receiver as spec;
 
-use base::FrameFault;
+use base::Fault;
 
 // The longest frame that is wrapped.
 pub const CONTENTS_MOST: usize = 64;
@@ -17,13 +17,13 @@ pub enum Place {
     LengthLow,
     // Behind the length's low byte, which is given.
     LengthHigh(u8),
-    // In a frame of so many bytes, so many of which are in the buffer.
+    // In a frame of so many bytes, so many of which are in the buffer: any count is answered, where an ArrayVec would hold 64 at most.
     Contents(u8, u8),
     // Among bytes to be skipped: so many are left.
     Skipped(u16),
 }
 
-// A frame begins at the front of the buffer. The count is of the bytes dropped where a tag should stand.
+// A frame begins at the front of the buffer, an array, since a place past its end is answered too. The count is of the bytes dropped where a tag should stand.
 #[derive(Clone, Copy)]
 pub struct Receiver {
     pub place: Place,
@@ -31,13 +31,13 @@ pub struct Receiver {
     pub dropped: u32,
 }
 
-// What came with the last byte taken: a frame is the first bytes of the receiver's buffer, as many as are told.
-#[derive(Clone, Copy)]
+// What came with the last byte taken: a frame is the first bytes of the receiver's buffer, as many as are told. An enum of its own: a host does three things.
+#[derive(Clone, Copy, PartialEq, Eq)]
 pub enum Event {
     Nothing,
     Frame(usize),
-    // The outer field is at fault: what is wrong, and at which offset from its tag.
-    Refused(FrameFault, usize),
+    // What is wrong with the outer field; the offset is from its tag.
+    Refused(Fault),
 }
 
 // The receiver afterwards, and how many bytes it took.

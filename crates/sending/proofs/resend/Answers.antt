@@ -1,15 +1,13 @@
-use Rattle.office.proofs.Turns.{fits, gives_frame, gives_refusal}
+use mathlib.Core.Path.{refl}
+use borrow.Author.Rules.{rules}
+use Rattle.office.proofs.Decided.{gives_frame, gives_refusal}
 use Rattle.sending.proofs.Decisions.{resend_decided}
 use Rattle.sending.proofs.resend.Goals as goal
 
-pub send_order_again-requires : goal.send_order_again-requires
-send_order_again-requires c =
-    fits (resend_decided _ _ _) _ c.resend_refusal-verdict.ensures c.in-Accepted.is
+pub returns-in-Ok : goal.returns-in-Ok
+returns-in-Ok c =
+    gives_frame (resend_decided _ _ _) _ c.resend_refusal.ensures c.kept_order.result _ c.in-Ok.is refl c.kept_order.ensures
+    (search (rules, c.kept_order.type_inv.1.1.1.1)) _ _ _ (λ fits. fits) c.send.ensures
 
-pub returns-in-Accepted : goal.returns-in-Accepted
-returns-in-Accepted c =
-    gives_frame (resend_decided _ _ _) _ c.resend_refusal-verdict.ensures c.in-Accepted.is
-    c.send_order_again.result _ _ c.send_order_again.ensures
-
-pub returns-in-Refused : goal.returns-in-Refused
-returns-in-Refused c = gives_refusal (resend_decided _ _ _) _ c.resend_refusal-verdict.ensures _ c.in-Refused.is _
+pub returns-in-Err : goal.returns-in-Err
+returns-in-Err c = rw c.refused.ensures (gives_refusal (resend_decided _ _ _) _ c.resend_refusal.ensures _ c.in-Err.is _)

@@ -1,11 +1,9 @@
-use Prim.Native.Nat.{◌≤◌, ◌-◌}
-use lib.ListN.{length, take}
-use Rattle.packet.specs.Packet.{escape}
-use Rattle.packet.specs.Steps.{Put}
+use Rattle.std.proofs.Common.{◌≡◌, ◌+◌, ◌≤◌, ◌++◌, length, drop}
+use Rattle.packet.specs.Packet.{packet_limit, escape}
 use Rattle.packet.proofs.builder.put_all.Given as goal
 
-abbrev pub invariant-loop-i : goal.invariant-loop-i
-invariant-loop-i l = (l.i ≤ length l.bytes) × Put (escape (take l.i l.bytes)) l.start l.initial.out l.out l.at
-
-abbrev pub decreases-loop-i : goal.decreases-loop-i
-decreases-loop-i l = length l.bytes - l.i
+abbrev pub invariant-loop-byte : goal.invariant-loop-byte
+invariant-loop-byte l = record {
+  rest : l.packet.items ++ escape (drop l.byte-index l.bytes) ≡ l.initial.packet.items ++ escape l.bytes;
+  room : length l.packet.items + length (escape (drop l.byte-index l.bytes)) ≤ packet_limit;
+}

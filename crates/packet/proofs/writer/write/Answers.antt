@@ -1,26 +1,22 @@
-use Rattle.packet.specs.Writer.{written}
-use native.Mathlib.Omega.{arith}
-use lib.ListN.{length-take}
-use Rattle.packet.proofs.PacketTheorems.{packet_of_short}
-use Rattle.packet.proofs.WriterLaws.{written_built}
-use Rattle.base.proofs.Tests.{tests}
-use borrow.Author.Rules.{rules}
+use Rattle.std.proofs.Common.{◌≡◌, ◌≤◌, List, ℕ, length, rules}
+use Rattle.std.proofs.lemmas.List.{take_all}
+use borrow.Author.Tests.{le-ltb}
+use Rattle.base.specs.Writes.{fitting}
+use Rattle.packet.specs.Packet.{data_most, packet}
+use Rattle.packet.specs.Writer.{id_most, written}
+use Rattle.packet.specs.declared.writer.Access.{Access}
 use Rattle.packet.proofs.writer.write.Goals as goal
 
-pub returns-then-id-gt-ID_MOST : goal.returns-then-id-gt-ID_MOST
-unfolding written
-returns-then-id-gt-ID_MOST c = search (rules, tests)
-
-pub returns-then-bytes-gt-DATA_MOST : goal.returns-then-bytes-gt-DATA_MOST
-unfolding written
-returns-then-bytes-gt-DATA_MOST c = search (rules, tests)
-
-pub put_packet-requires : goal.put_packet-requires
-put_packet-requires c = rw c.build.ensures (packet_of_short _ _ (rw length-take (omega arith)))
+-- with an ID and data that a packet takes, the room decides
+written_fitting : (id : ℕ) (access : Access) (bytes : List ℕ) → id ≤ id_most → length bytes ≤ data_most → written id access bytes ≡ fitting (packet id access bytes)
+unfolding written fitting
+written_fitting id access bytes small short = λ i room. by_room room i
+  where
+    by_room : (room : ℕ) → written id access bytes room ≡ fitting (packet id access bytes) room
+    by_room room = simp (le-ltb id_most id small, le-ltb data_most (length bytes) short)
 
 pub returns : goal.returns
 returns c =
-    written_built _ _ _ (search rules) (search rules)
-    c.command_byte.ensures
-    c.build.ensures
-    c.put_packet.ensures
+    let a = c.args in
+    let built = rw (c.deref.ensures.0, c.build.ensures, c.command_byte.ensures, take_all data_most a.bytes.now (search rules)) at c.put.ensures in
+    rw (written_fitting a.id a.access a.bytes.now (search rules) (search rules)) built

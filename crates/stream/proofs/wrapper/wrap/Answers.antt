@@ -1,24 +1,15 @@
-use mathlib.Core.Path.{sym, ◌∙◌}
-use borrow.Author.Rules.{rules}
-use Rattle.base.proofs.Tests.{tests}
-use Rattle.wrapping.specs.Wrapping.{wrapping}
-use Rattle.wrapping.proofs.WrappingLaws.{fits_within}
-use Rattle.stream.proofs.WrapperLaws.{wrapped_left, wrapped_stored}
+use Rattle.std.proofs.Common.{◌≡◌, ◌≤◌, ◌+◌, length, sym, ◌∙◌, arith, refl}
+use borrow.Author.Tests.{le-ltb}
+use Rattle.base.proofs.Lists.{sets_next, sets_front}
+use Rattle.wrapping.specs.Wrapping.{head, wrapped, wrapping}
 use Rattle.stream.proofs.wrapper.wrap.Goals as goal
 
-pub returns-then-not-fits : goal.returns-then-not-fits
-unfolding wrapping
-returns-then-not-fits c = search (rules, tests, c.if-not-fits.true, ← c.fits.ensures)
-
-pub returns-then-out-len : goal.returns-then-out-len
-returns-then-out-len c = wrapped_left _ (sym c.fits.ensures ∙ c.if-not-fits.false) c.if-out-len.true
-
-pub overflow_cast-len : goal.overflow_cast-len
-overflow_cast-len c =
-    let within = fits_within _ (sym c.fits.ensures ∙ c.if-not-fits.false) in
-    search rules
-
 pub returns : goal.returns
+unfolding wrapping
 returns c =
-    let fitting = sym c.fits.ensures ∙ c.if-not-fits.false in
-    wrapped_stored _ fitting c.if-out-len.false c.put.ensures
+    let f = c.args.frame.now in
+    let fitting = sym c.fits.ensures.value ∙ c.if-not-fits.false in
+    let enough : length (wrapped f) ≤ length c.args.out.now = omega arith in
+    let stored = c.store-2.ensures ∙ rw (c.store.ensures, c.to_le_bytes.ensures) (sets_next (head (length f)) f c.args.out.now 3 refl) ∙ sets_front (wrapped f) c.args.out.now enough in
+    let long : length (wrapped f) ≡ 3 + length f = omega arith in
+    record { answer_is = rw (fitting, le-ltb _ _ enough, long); output_is = rw (fitting, le-ltb _ _ enough) stored }

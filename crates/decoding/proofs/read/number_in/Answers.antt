@@ -1,5 +1,0 @@
-use borrow.Author.Rules.{rules}
-use Rattle.decoding.proofs.read.number_in.Goals as goal
-
-pub returns : goal.returns
-returns c = search (rules, c.le16.ensures, c.rest.ensures)
