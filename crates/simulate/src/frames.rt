@@ -25,7 +25,7 @@ impl Frames {
     }
 
     // Keeps the frame that the end wrote, if it wrote one.
-    pub fn keep(&mut self, frame: &[u8]) -> Result<(), AllocError> {
+    pub(crate) fn keep(&mut self, frame: &[u8]) -> Result<(), AllocError> {
         if frame.is_empty() {
             return Ok(());
         }
@@ -42,7 +42,7 @@ impl Frames {
     }
 
     // Frame i of those written, counted from 1, where it is kept.
-    pub fn get(&self, i: usize) -> Option<&[u8]> {
+    pub(crate) fn get(&self, i: usize) -> Option<&[u8]> {
         let later = self.count.checked_sub(i)?;
         let place = self.last.len().checked_sub(later)?.checked_sub(1)?;
         Some(self.last.get(place)?.as_slice())
@@ -62,28 +62,28 @@ pub(crate) struct Written {
 }
 
 impl Written {
-    pub fn new(alloc: Global) -> Result<Written, AllocError> {
+    pub(crate) fn new(alloc: Global) -> Result<Written, AllocError> {
         Ok(Written {
             cab: Frames::new(alloc)?,
             offices: Frames::new(alloc)?,
         })
     }
 
-    pub fn by(&self, end: End) -> &Frames {
+    pub(crate) fn by(&self, end: End) -> &Frames {
         match end {
             End::Box => &self.cab,
             End::Office => &self.offices,
         }
     }
 
-    pub fn by_mut(&mut self, end: End) -> &mut Frames {
+    pub(crate) fn by_mut(&mut self, end: End) -> &mut Frames {
         match end {
             End::Box => &mut self.cab,
             End::Office => &mut self.offices,
         }
     }
 
-    pub fn clear(&mut self) {
+    pub(crate) fn clear(&mut self) {
         self.cab.clear();
         self.offices.clear();
     }
@@ -104,7 +104,7 @@ pub(crate) struct Memory {
 }
 
 impl Memory {
-    pub fn new(alloc: Global) -> Result<Memory, AllocError> {
+    pub(crate) fn new(alloc: Global) -> Result<Memory, AllocError> {
         Ok(Memory {
             given: Vec::with_capacity(alloc, LINE_LIMIT)?,
             orders: Vec::with_capacity(alloc, ITEM_LIMIT)?,

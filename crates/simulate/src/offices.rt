@@ -21,7 +21,7 @@ pub(crate) struct Offices {
 
 impl Offices {
     // All offices never opened, office 1 in use.
-    pub fn unopened() -> Offices {
+    pub(crate) fn unopened() -> Offices {
         let unopened = KeptOffice {
             office: starting::never_opened(),
             receiver: Receiver::new(),

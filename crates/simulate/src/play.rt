@@ -27,7 +27,7 @@ pub(crate) struct Play {
 }
 
 impl Play {
-    pub fn new(alloc: Global, to: Stdout) -> io::Result<Play> {
+    pub(crate) fn new(alloc: Global, to: Stdout) -> io::Result<Play> {
         Ok(Play {
             world: World::fresh(),
             memory: Memory::new(alloc)?,
@@ -41,7 +41,7 @@ impl Play {
     }
 
     // The bytes of one read: each line that ends among them is done.
-    pub fn read(&mut self, bytes: &[u8]) -> io::Result<()> {
+    pub(crate) fn read(&mut self, bytes: &[u8]) -> io::Result<()> {
         for piece in bytes.split_inclusive(|byte| *byte == b'\n') {
             match piece.strip_suffix(b"\n") {
                 Some(last) => {
@@ -55,7 +55,7 @@ impl Play {
     }
 
     // The input has ended, in a line that may have no newline. How many answers were as expected is told where any was expected.
-    pub fn end(&mut self) -> io::Result<()> {
+    pub(crate) fn end(&mut self) -> io::Result<()> {
         self.end_line()?;
         if self.same != 0 || self.other != 0 {
             writeln!(

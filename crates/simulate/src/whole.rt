@@ -16,20 +16,20 @@ pub(crate) struct Line {
 }
 
 impl Line {
-    pub fn new(alloc: Global) -> Result<Line, AllocError> {
+    pub(crate) fn new(alloc: Global) -> Result<Line, AllocError> {
         Ok(Line {
             text: Vec::with_capacity(alloc, LINE_LIMIT + 1)?,
             number: 1,
         })
     }
 
-    pub fn extend(&mut self, more: &[u8]) -> Result<(), AllocError> {
+    pub(crate) fn extend(&mut self, more: &[u8]) -> Result<(), AllocError> {
         let room = (LINE_LIMIT + 1).saturating_sub(self.text.len());
         self.text
             .extend_from_slice(more.get(..room).unwrap_or(more))
     }
 
-    pub fn call(&self) -> Result<&[u8], Fault> {
+    pub(crate) fn call(&self) -> Result<&[u8], Fault> {
         if self.text.len() > LINE_LIMIT {
             return Err(Fault::TooLong);
         }
@@ -38,12 +38,12 @@ impl Line {
     }
 
     // Whether this is the answer that the line expects, if it expects one. An answer ends in a newline, if there is any.
-    pub fn expects(&self, answer: &str) -> Option<bool> {
+    pub(crate) fn expects(&self, answer: &str) -> Option<bool> {
         let expected = self.expected()?;
         Some(answer.as_bytes().strip_suffix(b"\n").unwrap_or(b"") == expected)
     }
 
-    pub fn tell_expected(&self, out: &mut Vec<u8>) -> io::Result<()> {
+    pub(crate) fn tell_expected(&self, out: &mut Vec<u8>) -> io::Result<()> {
         write!(out, "line {}: expected ", self.number)?;
         out.extend_from_slice(self.expected().unwrap_or(b""))?;
         out.push(b'\n')?;
@@ -72,7 +72,7 @@ impl Line {
     }
 
     // The next line begins.
-    pub fn begin_next(&mut self) {
+    pub(crate) fn begin_next(&mut self) {
         self.text.clear();
         self.number = self.number.wrapping_add(1);
     }

@@ -20,7 +20,7 @@ pub(crate) struct Receivers {
 }
 
 impl Receivers {
-    pub fn at(&mut self, holder: Holder) -> &mut Receiver {
+    pub(crate) fn at(&mut self, holder: Holder) -> &mut Receiver {
         match holder {
             Holder::Bench => &mut self.bench,
             Holder::Box => &mut self.cab,
@@ -44,7 +44,7 @@ pub(crate) struct World {
 
 impl World {
     // As at the start: no session opened, office 1 in use.
-    pub fn fresh() -> World {
+    pub(crate) fn fresh() -> World {
         World {
             ends: Pair {
                 cab: starting::restarted(SessionId(0)),
@@ -63,13 +63,13 @@ impl World {
     }
 
     // After a call: the session that the box has open.
-    pub fn note_opened(&mut self) {
+    pub(crate) fn note_opened(&mut self) {
         if self.ends.cab.active {
             self.opened = self.opened.max(self.ends.cab.highest.0);
         }
     }
 
-    pub fn settings(&self, holder: Holder) -> Settings {
+    pub(crate) fn settings(&self, holder: Holder) -> Settings {
         match holder {
             Holder::Bench => self.bench.settings(),
             Holder::Box => self.ends.cab.controller.settings(),
