@@ -1,5 +1,5 @@
 // An order at the controller.
-ghost use Rattle.std.specs.Prelude.{◌≡◌, replicate};
+ghost use Rattle.std.specs.Prelude.{◌≡◌, replicate, take};
 ghost use Rattle.bus.specs.Run.{run};
 ghost use Rattle.frame.specs.View.{asked};
 ghost use Rattle.session.specs.Box as spec;
@@ -14,7 +14,7 @@ const UNSENT_LIMIT: usize = 255;
 
 // The exchange wants room for what is sent, which nobody reads here.
 fn run_packet(controller: Controller, packet: &Packet) -> Controller
-    ensures { result ≡ run controller packet.now.items }
+    ensures { result ≡ run controller (take packet.now.len packet.now.bytes) }
 {
     let mut out = [0; PACKET_LIMIT];
     exchange_all(controller, packet.as_slice(), &mut out)

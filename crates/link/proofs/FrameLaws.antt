@@ -64,7 +64,7 @@ meaning_as_length Order s n c σ e = encode_length (order s n c) e
 meaning_as_length Ack s n c σ e = encode_length (ack s n) refl
 meaning_as_length (Refuse r) s n c σ e = encode_length (refuse s r) refl
 
-meaning_length : (f : FrameStruct) → length f.change.body ≡ data_limit → length (encoding_of (meaning f)) ≤ frame_limit
+pub meaning_length : (f : FrameStruct) → length f.change.body ≡ data_limit → length (encoding_of (meaning f)) ≤ frame_limit
 meaning_length f e = meaning_as_length f.kind f.session.0 f.number.0 (asked f.change) f.settings (asked_short f.change e)
 
 -- an output as long as the longest frame is too short for none

@@ -1,11 +1,11 @@
 -- What an encoded frame means. Public contracts speak of its bytes through `bytes_of`.
-use Rattle.std.specs.Prelude.{ℕ, ◌+◌, ◌≡◌, cond, List, [], length, ltb, Result, Ok, Err}
+use Rattle.std.specs.Prelude.{ℕ, ◌+◌, ◌≡◌, cond, List, [], length, take, replicate, ltb, Result, Ok, Err}
 use Rattle.std.proofs.Math.Option.{Option, none, some}
 use Rattle.base.specs.Lent.{overwritten}
 use Rattle.base.specs.Refusal.{Told, plain}
 use Rattle.registers.specs.Block.{block_length}
-use Rattle.arrayvec.specs.ArrayVec.{ArrayVec}
 use Rattle.base.specs.declared.refusal.Refusal.{Refusal}
+use Rattle.link.specs.declared.encoded.Encoded.{Encoded}
 use Rattle.frame.specs.Frame.{Frame}
 use Rattle.frame.specs.View.{refusal_of}
 use Rattle.link.specs.Encoding.{encode}
@@ -19,8 +19,12 @@ abbrev pub encoding_of : Option Frame → List ℕ
 encoding_of none = []
 encoding_of (some f) = encode f
 
-abbrev pub bytes_of : ArrayVec ℕ → List ℕ
-bytes_of e = e.items
+-- where len is over the limit, which no call returns, the whole array
+abbrev pub bytes_of : Encoded → List ℕ
+bytes_of e = take e.len e.bytes
+
+abbrev pub encoded : List ℕ → Encoded
+encoded l = record { bytes = overwritten l (replicate frame_limit 0); len = length l }
 
 -- what is written at the start of a lent output of `room` bytes: all or nothing
 unfoldable pub sent_bytes : List ℕ → ℕ → List ℕ

@@ -2,6 +2,7 @@
 ghost use Rattle.std.specs.Prelude.{◌≡◌};
 ghost use Rattle.number.specs.Number.{le16_bytes};
 ghost use Rattle.packet.specs.Packet.{packet_of};
+ghost use Rattle.packet.specs.Writer.{built};
 ghost use Rattle.frame.specs.View.{asked};
 ghost use Rattle.order.specs.Apply as spec;
 
@@ -47,7 +48,7 @@ pub(crate) fn resolve(level: u16, change: Change) -> Resolved
 
 impl Resolved {
     pub(crate) fn packet(&self) -> Packet
-        ensures { result.items ≡ packet_of self.now.command self.now.body.items }
+        ensures { result ≡ built (packet_of self.now.command self.now.body.items) }
     {
         build(self.command, self.body.as_slice())
     }
@@ -55,7 +56,7 @@ impl Resolved {
 
 // The packet that the box sends for a change at this backlight level.
 pub fn order_packet(level: u16, change: Change) -> Packet
-    ensures { result.items ≡ spec.order_packet level (asked change) }
+    ensures { result ≡ built (spec.order_packet level (asked change)) }
 {
     resolve(level, change).packet()
 }

@@ -26,8 +26,12 @@ unfolding checksum total
 checksum_snoc xs b = rw (total_append xs (b ∷ []), mod-add-mod, add-zero)
 
 -- one more byte of a list behind others
-pub checksum_more : (a b : ℕ) (l : List ℕ) (i : ℕ) → i < length l → checksum (a ∷ b ∷ take (i + 1) l) ≡ (checksum (a ∷ b ∷ take i l) + get_or l i 0) % 256
-checksum_more a b l i h = rw (take_more l i 0 h) (checksum_snoc (a ∷ b ∷ take i l) (get_or l i 0))
+pub checksum_more : (xs l : List ℕ) (i : ℕ) → i < length l → checksum (xs ++ take (i + 1) l) ≡ (checksum (xs ++ take i l) + get_or l i 0) % 256
+checksum_more xs l i h = rw (take_more l i 0 h, ← append_assoc xs (take i l) (get_or l i 0 ∷ [])) (checksum_snoc (xs ++ take i l) (get_or l i 0))
+
+-- the same behind the two bytes at which the code begins its sum
+pub checksum_behind : (a b : ℕ) (l : List ℕ) (i : ℕ) → i < length l → checksum (a ∷ b ∷ take (i + 1) l) ≡ (checksum (a ∷ b ∷ take i l) + get_or l i 0) % 256
+checksum_behind a b l i h = checksum_more (a ∷ b ∷ []) l i h
 
 -- a byte's escape, case by case
 

@@ -1,16 +1,17 @@
 -- What the packet's definition is worth: escapes come out again, only the start is 0xA5, and a packet tells its command.
 use mathlib.Core.Path.{◌≡◌, refl, sym, ap, ◌∙◌}
 use mathlib.Core.Bool.{Bool, true, false, cond}
-use mathlib.Core.List.{List, [], ◌∷◌, ◌++◌, append_assoc, head-eq_of_cons-eq, tail-eq_of_cons-eq}
+use mathlib.Core.List.{List, [], ◌∷◌, ◌++◌, head-eq_of_cons-eq, tail-eq_of_cons-eq}
 use Prim.Native.Nat.{ℕ, zero, suc, ◌+◌, ◌*◌, ◌≤◌}
 use native.Mathlib.Omega.{arith}
-use lib.ListN.{length, get_or, take, length-append, length-take}
-use lib.Seq.{take_at}
+use lib.ListN.{length, get_or, take, length-append}
+use lib.Seq.{take_at, take_all}
 use lib.Dec.{eqb, ltb}
 use borrow.Author.Tests.{eqb-true, eqb-false, ltb-true, ltb-false}
 use Rattle.packet.specs.declared.writer.Access.{Access}
 use Rattle.packet.specs.declared.writer.Access.TheVariants.{Write, Read}
 use Rattle.packet.specs.Packet.{data_most, packet_limit, command_byte, total, checksum, escape_byte, escape, fields, packet_of, unescape_from, unescape}
+use Rattle.packet.specs.Writer.{built}
 use Rattle.packet.specs.Theorems.{UnescapeEscape, StartOnly, PacketDetermines, PacketShort, LongestReached}
 use Rattle.packet.proofs.PacketLaws.{escape_start, escape_escape, escape_other, fields_escape, fields_length}
 
@@ -113,9 +114,6 @@ pub escape_short : (bs : List ℕ) → length (escape bs) ≤ 2 * length bs
 escape_short [] = omega arith
 escape_short (b ∷ bs) = rw length-append (omega (arith, escape_byte_short b, escape_short bs))
 
-pub front_short : (n : ℕ) (bs : List ℕ) → n ≤ data_most → length (escape (take n bs)) ≤ 2 * data_most
-front_short n bs h = omega (arith, escape_short (take n bs), length-take n bs)
-
 count_short : (n : ℕ) → n ≤ data_most → length (escape_byte n) + 2 * n ≤ 2 * data_most + 1
 unfolding escape_byte
 count_short n h = by_cases (ltb n data_most) refl
@@ -137,22 +135,17 @@ packet_of_short k bytes h =
       escape_byte_short s,
     )
 
--- a packet in the parts in which it is built
-pub packet_built : (k : ℕ) (d : List ℕ) → packet_of k d ≡ 0xA5 ∷ (((escape_byte k ++ escape_byte (length d)) ++ escape d) ++ escape_byte (checksum (k ∷ length d ∷ d)))
-unfolding packet_of fields
-packet_built k d = simp append_assoc
-
--- the front of some data has room
-pub packet_room : (k n : ℕ) (d : List ℕ) → n ≤ data_most → let front = take n d in
-    1 + length (escape_byte k) + length (escape_byte (length front)) + length (escape front) + length (escape_byte (checksum (k ∷ length front ∷ front))) ≤ packet_limit
-unfolding packet_of
-packet_room k n d h =
-    let front = take n d in
-    rw (sym (fields_length k (length front) front (checksum (k ∷ length front ∷ front)))) (packet_of_short k front (omega (arith, length-take n d)))
-
 pub packet_short : PacketShort
 packet_short id access = packet_of_short (command_byte id access)
 
 pub longest_reached : LongestReached
 unfolding packet_of fields escape_byte checksum total
 longest_reached = (refl, refl)
+
+-- the bytes that a packet was built of
+pub built_front : (bytes : List ℕ) → take (built bytes).len (built bytes).bytes ≡ bytes
+built_front bytes = take_at bytes _ (length bytes) refl
+
+-- data that fit are taken whole
+pub data_whole : (bytes : List ℕ) → length bytes ≤ data_most → take data_most bytes ≡ bytes
+data_whole bytes short = take_all data_most bytes short

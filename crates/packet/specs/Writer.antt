@@ -1,7 +1,9 @@
 -- What the packet writer is to do: document 01, "Refusal numbers".
-use Rattle.std.specs.Prelude.{ℕ, cond, List, length, ltb}
+use Rattle.std.specs.Prelude.{ℕ, cond, List, length, replicate, ltb}
 use Rattle.base.specs.Result.{Result, refused, accepted}
-use Rattle.packet.specs.Packet.{data_most, packet}
+use Rattle.base.specs.Lent.{overwritten}
+use Rattle.packet.specs.Packet.{data_most, packet_limit, packet}
+use Rattle.packet.specs.declared.builder.Packet.{Packet}
 use Rattle.packet.specs.declared.writer.Access.{Access}
 
 -- the highest ID: the code's ID_MOST
@@ -15,3 +17,7 @@ written id access bytes room =
     (cond (ltb data_most (length bytes)) (refused 2)
     (cond (ltb room (length (packet id access bytes))) (refused 1)
     (accepted (packet id access bytes))))
+
+-- a packet by value: its bytes at the front of as many as the longest has
+abbrev pub built : List ℕ → Packet
+built bytes = record { bytes = overwritten bytes (replicate packet_limit 0); len = length bytes }

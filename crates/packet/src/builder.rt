@@ -1,9 +1,10 @@
 // A packet by value.
-ghost use Rattle.std.specs.Prelude.{◌≡◌, ◌+◌, ◌≤◌, ◌++◌, length, take};
+ghost use Rattle.std.specs.Prelude.{◌≡◌, ◌+◌, ◌≤◌, length, take};
 ghost use Rattle.packet.specs.Packet.{data_most, packet_limit, escape_byte, escape, packet_of};
+ghost use Rattle.packet.specs.Writer.{built};
+ghost use Rattle.packet.specs.Steps.{Put, head};
 
 use crate::sum::checksum;
-use arrayvec::ArrayVec;
 
 // The longest packet's length.
 pub const PACKET_LIMIT: usize = 516;
@@ -15,52 +16,80 @@ const START: u8 = 0xA5;
 
 const ESCAPE: u8 = 0x5A;
 
-// A packet's bytes.
-pub type Packet = ArrayVec<u8, PACKET_LIMIT>;
+// A packet's first len bytes, as a value that may be copied.
+#[derive(Clone, Copy)]
+pub struct Packet {
+    pub bytes: [u8; PACKET_LIMIT],
+    pub len: usize,
+}
+
+impl Packet {
+    // Where len is over the limit, which no call returns, all bytes.
+    pub fn as_slice(&self) -> &[u8]
+        ensures value { result.now ≡ take self.now.len self.now.bytes }
+        ensures fits { length result.now ≤ packet_limit }
+    {
+        &self.bytes[..PACKET_LIMIT.min(self.len)]
+    }
+}
 
 // The packet of a command byte and its data. Data past the most are left out: a caller that takes longer data refuses them before.
-#[tactic(auto, using(crate::proofs::PacketTheorems::escape_byte_short, crate::proofs::PacketTheorems::front_short))]
 pub fn build(command: u8, bytes: &[u8]) -> Packet
-    ensures { result.items ≡ packet_of command (take data_most bytes.now) }
+    ensures { result ≡ built (packet_of command (take data_most bytes.now)) }
 {
     let data = &bytes[..DATA_MOST.min(bytes.len())];
     let count = data.len() as u8;
-    let mut packet = Packet::new();
-    packet.push(START);
-    put(command, &mut packet);
-    put(count, &mut packet);
-    put_all(data, &mut packet);
-    put(checksum(command, count, data), &mut packet);
+    let mut packet = Packet {
+        bytes: [0; PACKET_LIMIT],
+        len: 0,
+    };
+    let start = put_head(command, count, &mut packet.bytes);
+    let end = put_all(data, &mut packet.bytes, start);
+    packet.len = put(checksum(command, count, data), &mut packet.bytes, end);
     packet
 }
 
-// Appends bytes escaped.
-fn put_all(bytes: &[u8], packet: &mut Packet)
-    requires { length packet.old.items + length (escape bytes.now) ≤ packet_limit }
-    ensures items { packet.new.items ≡ packet.old.items ++ escape bytes.now }
-    ensures len { length packet.new.items ≡ length packet.old.items + length (escape bytes.now) }
+// The start, the command byte and the count.
+fn put_head(command: u8, count: u8, out: &mut [u8; PACKET_LIMIT]) -> usize
+    ensures { Put (head command count) 0 out.old out.new result }
 {
+    out[0] = START;
+    let at = put(command, out, 1);
+    put(count, out, at)
+}
+
+// Stores bytes escaped at out[start] and on, and answers the place after them.
+fn put_all(bytes: &[u8], out: &mut [u8; PACKET_LIMIT], start: usize) -> usize
+    requires { start + length (escape bytes.now) ≤ packet_limit }
+    ensures { Put (escape bytes.now) start out.old out.new result }
+{
+    let mut at = start;
     for byte in bytes {
-        put(*byte, packet);
+        at = put(*byte, out, at);
     }
+    at
 }
 
 // The same of one byte.
 #[tactic(auto, unfolding(crate::specs::Packet::escape_byte))]
-fn put(byte: u8, packet: &mut Packet)
-    requires { length packet.old.items + length (escape_byte byte) ≤ packet_limit }
-    ensures items { packet.new.items ≡ packet.old.items ++ escape_byte byte }
-    ensures len { length packet.new.items ≡ length packet.old.items + length (escape_byte byte) }
+fn put(byte: u8, out: &mut [u8; PACKET_LIMIT], at: usize) -> usize
+    requires { at + length (escape_byte byte) ≤ packet_limit }
+    ensures { Put (escape_byte byte) at out.old out.new result }
 {
     match byte {
         START => {
-            packet.push(ESCAPE);
-            packet.push(0);
+            out[at] = ESCAPE;
+            out[at + 1] = 0;
+            at + 2
         }
         ESCAPE => {
-            packet.push(ESCAPE);
-            packet.push(ESCAPE);
+            out[at] = ESCAPE;
+            out[at + 1] = ESCAPE;
+            at + 2
         }
-        _ => packet.push(byte),
+        _ => {
+            out[at] = byte;
+            at + 1
+        }
     }
 }

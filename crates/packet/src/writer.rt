@@ -28,7 +28,7 @@ pub fn write(id: u8, access: Access, bytes: &[u8], out: &mut [u8]) -> Written
     if DATA_MOST < bytes.len() {
         return Err(Refusal::DataTooLong);
     }
-    put(&build(command_byte(id, access), bytes), out)
+    put(build(command_byte(id, access), bytes).as_slice(), out)
 }
 
 fn command_byte(id: u8, access: Access) -> u8
