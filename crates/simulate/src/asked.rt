@@ -78,7 +78,6 @@ pub(crate) enum Made {
 // What only prints.
 #[derive(Clone, Copy)]
 pub(crate) enum Said {
-    Nothing,
     Told(Told),
     Made(Made),
     Explained(Refusal),

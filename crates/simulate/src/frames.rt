@@ -1,4 +1,4 @@
-// What is kept beside the ends: the last frames that they wrote, and what a line gives. Each buffer keeps its allocation, so that hardly a line allocates.
+// What is kept beside the ends: the last frames that they wrote, and what a line gives. Each buffer has room for any line, so that no line allocates.
 use crate::whole::LINE_LIMIT;
 use arrayvec::ArrayVec;
 use judging::End;
@@ -89,8 +89,10 @@ impl Written {
     }
 }
 
-// As many items as a line may give.
-const ITEM_LIMIT: usize = LINE_LIMIT / 2;
+// As many orders and lengths as a line may give: an order takes ten characters at least, a length two.
+const ORDER_LIMIT: usize = LINE_LIMIT / 8;
+
+const LENGTH_LIMIT: usize = LINE_LIMIT / 2;
 
 #[derive(Drop)]
 pub(crate) struct Memory {
@@ -107,8 +109,8 @@ impl Memory {
     pub(crate) fn new(alloc: Global) -> Result<Memory, AllocError> {
         Ok(Memory {
             given: Vec::with_capacity(alloc, LINE_LIMIT)?,
-            orders: Vec::with_capacity(alloc, ITEM_LIMIT)?,
-            lengths: Vec::with_capacity(alloc, ITEM_LIMIT)?,
+            orders: Vec::with_capacity(alloc, ORDER_LIMIT)?,
+            lengths: Vec::with_capacity(alloc, LENGTH_LIMIT)?,
             written: Written::new(alloc)?,
         })
     }

@@ -10,12 +10,11 @@ use frame::{Ask, OrderNumber, SessionId};
 use judging::End;
 use packet::Access;
 
-// A call, or nothing.
+// A call; s is not empty, and no space stands at its front.
 pub(crate) fn read(s: &[u8], opened: u32, memory: &mut Memory) -> Result<Asked, Fault> {
     memory.given.clear();
     let mut words = Words::new(s);
     match words.next() {
-        b"" => Ok(asked::plain(Action::Say(Said::Nothing))),
         b"to-box" => carried::carried(End::Office, words, memory),
         b"to-office" => carried::carried(End::Box, words, memory),
         b"raise" => without_bytes(Call::Issue(Ask::Raise(words.fitting()?)), words),

@@ -34,15 +34,18 @@ pub(crate) fn perform(
         Action::Offices(task) => {
             match task {
                 OfficesTask::Use(n) => offices::put_in_use(world, n),
-                OfficesTask::Fresh => {
-                    *world = World::fresh();
-                    memory.written.clear();
-                }
+                OfficesTask::Fresh => start_anew(world, memory),
             }
             ok(out)
         }
         Action::Say(said) => say(world, said, lent, memory.given.as_slice(), out),
     }
+}
+
+// A function of its own: as an arm above, it had every other line clear as many bytes as a world has.
+fn start_anew(world: &mut World, memory: &mut Memory) {
+    *world = World::fresh();
+    memory.written.clear();
 }
 
 fn ok(out: &mut String) -> Printed {
@@ -90,7 +93,6 @@ fn restart(world: &mut World, session: SessionId) {
 
 fn say(world: &World, said: Said, lent: Option<usize>, bytes: &[u8], out: &mut String) -> Printed {
     match said {
-        Said::Nothing => Ok(()),
         Said::Told(told) => tell(world, told, out),
         Said::Made(made) => make(made, lent, bytes, out),
         Said::Explained(refusal) => explain::told(out, refusal),

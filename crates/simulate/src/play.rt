@@ -11,6 +11,10 @@ use std::io::{Stdout, Write};
 // As many bytes as one read may give, and as are gathered before they are written.
 pub(crate) const BLOCK_LIMIT: usize = 65536;
 
+// More than any answer takes, and what it should have been. The longest is that of a line of OPENs to the box's receiver: a WELCOME to
+// each, some 25,000 characters.
+const ANSWER_LIMIT: usize = 28672;
+
 #[derive(Drop)]
 pub(crate) struct Play {
     world: World,
@@ -32,10 +36,10 @@ impl Play {
             world: World::fresh(),
             memory: Memory::new(alloc)?,
             line: Line::new(alloc)?,
-            answer: String::with_capacity(alloc, BLOCK_LIMIT)?,
+            answer: String::with_capacity(alloc, ANSWER_LIMIT)?,
             same: 0,
             other: 0,
-            printed: Vec::with_capacity(alloc, 2 * BLOCK_LIMIT)?,
+            printed: Vec::with_capacity(alloc, BLOCK_LIMIT)?,
             to,
         })
     }
@@ -73,37 +77,50 @@ impl Play {
         Ok(())
     }
 
+    // What is gathered is written first, unless it leaves room for any answer.
     fn end_line(&mut self) -> io::Result<()> {
-        self.answer.clear();
-        if let Err(fault) = self.answer_line() {
-            writeln!(self.answer, "line {}: {fault}", self.line.number)?;
-        }
-        self.printed.extend_from_slice(self.answer.as_bytes())?;
-        self.compare()?;
-        self.line.begin_next();
-        if self.printed.len() >= BLOCK_LIMIT {
+        if self.printed.len() > BLOCK_LIMIT - ANSWER_LIMIT {
             self.write()?;
         }
-        Ok(())
-    }
-
-    fn answer_line(&mut self) -> Result<(), Fault> {
-        let call = self.line.call()?;
-        let asked = lines::read(call, self.world.opened, &mut self.memory)?;
-        perform::perform(&mut self.world, asked, &mut self.memory, &mut self.answer)?;
-        Ok(())
-    }
-
-    // Counts whether the answer is the one that the line expects, if it expects one.
-    fn compare(&mut self) -> io::Result<()> {
-        match self.line.expects(self.answer.as_str()) {
-            None => {}
-            Some(true) => self.same = self.same.wrapping_add(1),
-            Some(false) => {
+        let number = self.line.number;
+        let (call, expected) = self.line.parts();
+        self.answer.clear();
+        let answered = match call {
+            Ok(b"") => Ok(()),
+            Ok(call) => answer_call(call, &mut self.world, &mut self.memory, &mut self.answer),
+            Err(fault) => Err(fault),
+        };
+        if let Err(fault) = answered {
+            writeln!(self.answer, "line {number}: {fault}")?;
+        }
+        if !self.answer.is_empty() {
+            self.printed.extend_from_slice(self.answer.as_bytes())?;
+        }
+        if let Some(expected) = expected {
+            // an answer ends in a newline, if there is any
+            if self.answer.as_bytes().strip_suffix(b"\n").unwrap_or(b"") == expected {
+                self.same = self.same.wrapping_add(1);
+            } else {
                 self.other = self.other.wrapping_add(1);
-                self.line.tell_expected(&mut self.printed)?;
+                write!(self.printed, "line {number}: expected ")?;
+                self.printed.extend_from_slice(expected)?;
+                self.printed.push(b'\n')?;
             }
         }
+        self.line.begin_next();
         Ok(())
     }
+}
+
+// Not inlined, since its frame is large, and a line that asks for nothing is not to pay for it.
+#[inline(never)]
+fn answer_call(
+    call: &[u8],
+    world: &mut World,
+    memory: &mut Memory,
+    answer: &mut String,
+) -> Result<(), Fault> {
+    let asked = lines::read(call, world.opened, memory)?;
+    perform::perform(world, asked, memory, answer)?;
+    Ok(())
 }

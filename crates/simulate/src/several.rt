@@ -5,7 +5,7 @@ use crate::carried;
 use crate::frames::Memory;
 use frame::Ask;
 use judging::End;
-use outcome::BatchOrder;
+use outcome::{BATCH_LIMIT, BatchOrder};
 
 // No item stands there: the line ends, in `into N` or not.
 fn ends(words: &Words) -> bool {
@@ -87,7 +87,10 @@ pub(crate) fn carried(mut words: Words, memory: &mut Memory) -> Result<Asked, Fa
             break;
         }
         let frame = carried::numbered(End::Office, &mut words, &memory.written)?;
-        memory.given.extend_from_slice(frame)?;
+        // a run of more frames is refused whatever they are, so that no line allocates for them
+        if memory.lengths.len() < BATCH_LIMIT {
+            memory.given.extend_from_slice(frame)?;
+        }
         memory.lengths.push(frame.len())?;
     }
     lent(Action::Several(Several::Frames), words, Fault::NotBytes)

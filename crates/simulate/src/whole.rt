@@ -1,8 +1,6 @@
 // A line that is whole: its call, and the answer that it expects.
 use crate::asked::Fault;
 use std::alloc::{AllocError, Global};
-use std::io;
-use std::io::Write;
 
 // The longest line.
 pub(crate) const LINE_LIMIT: usize = 4096;
@@ -29,45 +27,20 @@ impl Line {
             .extend_from_slice(more.get(..room).unwrap_or(more))
     }
 
-    pub(crate) fn call(&self) -> Result<&[u8], Fault> {
-        if self.text.len() > LINE_LIMIT {
-            return Err(Fault::TooLong);
-        }
-        let (call, _) = self.split();
-        Ok(text::skip_spaces(call))
-    }
-
-    // Whether this is the answer that the line expects, if it expects one. An answer ends in a newline, if there is any.
-    pub(crate) fn expects(&self, answer: &str) -> Option<bool> {
-        let expected = self.expected()?;
-        Some(answer.as_bytes().strip_suffix(b"\n").unwrap_or(b"") == expected)
-    }
-
-    pub(crate) fn tell_expected(&self, out: &mut Vec<u8>) -> io::Result<()> {
-        write!(out, "line {}: expected ", self.number)?;
-        out.extend_from_slice(self.expected().unwrap_or(b""))?;
-        out.push(b'\n')?;
-        Ok(())
-    }
-
-    fn expected(&self) -> Option<&[u8]> {
-        if self.text.len() > LINE_LIMIT {
-            return None;
-        }
-        let (_, expected) = self.split();
-        expected.map(trimmed)
-    }
-
-    // What stands before ` ->`, and what behind it, if that stands in the line. What stands behind `#` is no part of it.
-    fn split(&self) -> (&[u8], Option<&[u8]>) {
+    // What stands before ` ->`, without the spaces in front of it, and the answer expected behind that, if one is. What stands behind `#` is
+    // no part of the line.
+    pub(crate) fn parts(&self) -> (Result<&[u8], Fault>, Option<&[u8]>) {
         let text = self.text.as_slice();
+        if text.len() > LINE_LIMIT {
+            return (Err(Fault::TooLong), None);
+        }
         let line = text::part(text, 0, text::find(text, 0, b'#'));
         let at = text::find(line, 0, b'>');
         let call = text::part(line, 0, at).strip_suffix(b" -");
         let expected = number::rest(line, at).strip_prefix(b">");
         match (call, expected) {
-            (Some(call), Some(expected)) => (call, Some(expected)),
-            _ => (line, None),
+            (Some(call), Some(expected)) => (Ok(text::skip_spaces(call)), Some(trimmed(expected))),
+            _ => (Ok(text::skip_spaces(line)), None),
         }
     }
 
