@@ -18,7 +18,7 @@ use Rattle.outcome.specs.Turn.{Turn, wrote, refused, Gives, refused_answer}
 use Rattle.office.specs.View.{accepted, sent}
 
 -- an output as long as the longest frame takes the whole of f: the turn that writes the frame it means
-gives_whole : {x o : Office} {n : Option Frame} (f : FrameStruct) → x ≡ o → meaning f ≡ n → (r : Answered Office) (before after : List ℕ) →
+pub gives_whole : {x o : Office} {n : Option Frame} (f : FrameStruct) → x ≡ o → meaning f ≡ n → (r : Answered Office) (before after : List ℕ) →
     length f.change.body ≡ data_limit → frame_limit ≤ length before → Gives (sent x (meaning f) (length before)) r before after → Gives (accepted o n) r before after
 unfolding sent
 gives_whole f p q r before after body fits given =
@@ -43,11 +43,14 @@ module _ {o after : Office} {Fits : Type 0} {f : Frame} where
     pub fits : (a : A) → found ≡ Ok a → Fits
     fits a e = (when_accepted d (sym told ∙ ap refusal_of e)).0
 
+    pub gives_wrote : (a : A) → found ≡ Ok a → (r : Answered Office) (before out : List ℕ) → Gives (wrote after f) r before out → Gives t r before out
+    gives_wrote a e r before out given = subst (λ (u : Turn Office). Gives u r before out) (sym (when_accepted d (sym told ∙ ap refusal_of e)).1) given
+
+    -- the same, from a frame sent that means f, where there is room for any
     pub gives_frame : {x : Office} (m : FrameStruct) (a : A) → found ≡ Ok a → x ≡ after → meaning m ≡ some f → length m.change.body ≡ data_limit →
         (r : Answered Office) (before out : List ℕ) → (Fits → frame_limit ≤ length before) → Gives (sent x (meaning m) (length before)) r before out → Gives t r before out
     gives_frame m a e p q body r before out room given =
-        let decided = when_accepted d (sym told ∙ ap refusal_of e) in
-        subst (λ (u : Turn Office). Gives u r before out) (sym decided.1) (gives_whole m p q r before out body (room decided.0) given)
+        gives_wrote a e r before out (gives_whole m p q r before out body (room (fits a e)) given)
 
     pub gives_refusal : (why : Refusal) → found ≡ Err why → (out : List ℕ) → Gives t (refused_answer o why) out out
     gives_refusal why e out =

@@ -1,7 +1,8 @@
 -- The rules' turns.
 use Prim.Native.Nat.{ℕ, ◌≤◌}
+use native.Mathlib.Omega.{arith}
 use lib.Dec.{eqb, leb, ltb}
-use borrow.Author.Tests.{ltb-false}
+use borrow.Author.Tests.{ltb-true, ltb-false}
 use Rattle.std.proofs.lemmas.Bool.{cond_both}
 use Rattle.frame.specs.Frame.{opening}
 use Rattle.link.specs.View.{frame_limit}
@@ -25,14 +26,15 @@ reopen_decided o room =
     (λ _. cond_both (ltb room frame_limit) _ _ D (λ _. no) (λ fitting. yes (ltb-false room frame_limit fitting)))
     (λ _. no)
 
-pub resend_decided : (o : Office) (n room : ℕ) → Decided o (frame_limit ≤ room) o (kept_order o n) (resend o n room)
+pub resend_decided : (o : Office) (n room : ℕ) → Decided o ((1 ≤ n) × (frame_limit ≤ room)) o (kept_order o n) (resend o n room)
 unfolding resend
 resend_decided o n room =
-    let D = Decided o (frame_limit ≤ room) o (kept_order o n) in
+    let D = Decided o ((1 ≤ n) × (frame_limit ≤ room)) o (kept_order o n) in
     cond_both (is_live o.stage) _ _ D
     (λ _. cond_both (ltb o.confirmed.0 n) _ _ D
-    (λ _. cond_both (leb n o.issued.0) _ _ D
-    (λ _. cond_both (ltb room frame_limit) _ _ D (λ _. no) (λ fitting. yes (ltb-false room frame_limit fitting)))
+    (λ above. cond_both (leb n o.issued.0) _ _ D
+    (λ _. cond_both (ltb room frame_limit) _ _ D (λ _. no)
+    (λ fitting. yes (omega (arith, ltb-true o.confirmed.0 n above), ltb-false room frame_limit fitting)))
     (λ _. no))
     (λ _. no))
     (λ _. no)

@@ -48,13 +48,18 @@ fn awaiting(session: SessionId) -> Office
     }
 }
 
-// Starts anew with a session and writes its OPEN.
+// Starts anew with a session and writes its OPEN. The verdict stays a local, here and below: handed to `Answered::refused` the office is copied once more.
 pub fn open(office: Office, session: SessionId, out: &mut [u8]) -> Answered<Office>
     ensures { Gives (spec.open_session office session.0 (length out.old)) result out.old out.new }
 {
-    match open_refusal(office, session, out.len()) {
+    let verdict = open_refusal(office, session, out.len());
+    match verdict {
         Ok(()) => office::send(awaiting(session), Frame::opening(session), out),
-        Err(refusal) => Answered::refused(office, refusal),
+        Err(_) => Answered {
+            state: office,
+            verdict,
+            len: 0,
+        },
     }
 }
 
@@ -72,9 +77,14 @@ fn reopen_refusal(office: Office, room: usize) -> Result<(), Refusal>
 pub fn reopen(office: Office, out: &mut [u8]) -> Answered<Office>
     ensures { Gives (spec.reopen office (length out.old)) result out.old out.new }
 {
-    match reopen_refusal(office, out.len()) {
+    let verdict = reopen_refusal(office, out.len());
+    match verdict {
         Ok(()) => office::send(office, Frame::opening(office.session), out),
-        Err(refusal) => Answered::refused(office, refusal),
+        Err(_) => Answered {
+            state: office,
+            verdict,
+            len: 0,
+        },
     }
 }
 
@@ -103,8 +113,13 @@ fn kept_order(office: Office, number: OrderNumber) -> Frame
 pub fn resend(office: Office, number: OrderNumber, out: &mut [u8]) -> Answered<Office>
     ensures { Gives (spec.resend office number.0 (length out.old)) result out.old out.new }
 {
-    match resend_refusal(office, number, out.len()) {
+    let verdict = resend_refusal(office, number, out.len());
+    match verdict {
         Ok(()) => office::send(office, kept_order(office, number), out),
-        Err(refusal) => Answered::refused(office, refusal),
+        Err(_) => Answered {
+            state: office,
+            verdict,
+            len: 0,
+        },
     }
 }

@@ -1,8 +1,6 @@
-use Rattle.office.proofs.Turns.{gives_sent}
+use mathlib.Core.Path.{refl}
+use Rattle.office.proofs.Turns.{gives_told}
 use Rattle.office.proofs.answer.send.Goals as goal
 
-pub returns-in-Ok : goal.returns-in-Ok
-returns-in-Ok c = gives_sent _ _ _ _ _ c.in-Ok.ensures
-
-pub returns-in-Err : goal.returns-in-Err
-returns-in-Err c = rw c.refused.ensures (gives_sent _ _ _ _ _ c.in-Err.ensures)
+pub returns : goal.returns
+returns c = gives_told _ _ _ _ c.send-sent.result c.send-sent.ensures _ refl c.verdict_of-verdict.ensures c.unwrap_or-len.ensures
