@@ -128,7 +128,8 @@ impl<'a> Left<'a> {
         })
     }
 
-    // In the field at the front, where a tag like its own is expected or not.
+    // In the field at the front, where a tag like its own is expected or not. Always inlined, since a call passes what is left, and its Result, through memory.
+    #[inline(always)]
     #[tactic(auto, unfolding(judging::specs::Decoding::field_fault))]
     fn check_field(self, expected: bool) -> Result<(), Fault>
         ensures { fault_found result ≡ spec.field_fault expected self.entry.bytes.now self.entry.offset }

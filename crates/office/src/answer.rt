@@ -16,7 +16,9 @@ fn verdict_of(written: Written) -> Result<(), Refusal>
     Ok(())
 }
 
-// Writes a frame at the start of out, and hands on the office as it is: in one line, since a match would copy the office in each arm. A refusal leaves out as it was.
+// Writes a frame at the start of out, and hands on the office as it is. A refusal leaves out as it was.
+// Without a match, which would copy the office in each arm; always inlined, since a call copies the office in and out.
+#[inline(always)]
 pub fn send(office: Office, frame: Frame, out: &mut [u8]) -> Answered<Office>
     ensures { Gives (view.sent office (meaning frame) (length out.old)) result out.old out.new }
 {

@@ -79,20 +79,23 @@ fn ended(office: Office, session: SessionId, refusal: u8) -> Office
     office
 }
 
-// What is no frame for the office is found out before; here too it is answered.
+// What is no frame for the office is found out before; here too it is answered. One Ok behind the match, since an Ok in each arm would copy the office in each.
 #[tactic(auto, unfolding(session::specs::Office::received))]
 fn received(office: Office, frame: Frame) -> Result<Office, Refusal>
     ensures { view.Takes (view.received office (meaning frame)) office result }
 {
-    match frame.kind {
-        Kind::Welcome => Ok(welcomed(office, frame.session, frame.settings)),
-        Kind::Ack => Ok(acknowledged(office, frame.session, frame.number)),
-        Kind::Refuse(refusal) => Ok(ended(office, frame.session, refusal)),
-        Kind::Malformed | Kind::Opening | Kind::Order => Err(Refusal::Frame(Fault {
-            kind: FrameFault::OtherEnd,
-            offset: 0,
-        })),
-    }
+    let after = match frame.kind {
+        Kind::Welcome => welcomed(office, frame.session, frame.settings),
+        Kind::Ack => acknowledged(office, frame.session, frame.number),
+        Kind::Refuse(refusal) => ended(office, frame.session, refusal),
+        Kind::Malformed | Kind::Opening | Kind::Order => {
+            return Err(Refusal::Frame(Fault {
+                kind: FrameFault::OtherEnd,
+                offset: 0,
+            }));
+        }
+    };
+    Ok(after)
 }
 
 // Takes a frame from the box. A refusal leaves the office as it was.

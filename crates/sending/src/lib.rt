@@ -48,19 +48,14 @@ fn awaiting(session: SessionId) -> Office
     }
 }
 
-// Starts anew with a session and writes its OPEN. The verdict stays a local, here and below: handed to `Answered::refused` the office is copied once more.
+// Starts anew with a session and writes its OPEN.
 pub fn open(office: Office, session: SessionId, out: &mut [u8]) -> Answered<Office>
     ensures { Gives (spec.open_session office session.0 (length out.old)) result out.old out.new }
 {
-    let verdict = open_refusal(office, session, out.len());
-    match verdict {
-        Ok(()) => office::send(awaiting(session), Frame::opening(session), out),
-        Err(_) => Answered {
-            state: office,
-            verdict,
-            len: 0,
-        },
+    if let Err(refusal) = open_refusal(office, session, out.len()) {
+        return Answered::refused(office, refusal);
     }
+    office::send(awaiting(session), Frame::opening(session), out)
 }
 
 #[tactic(auto, using(base::proofs::Tests::tests), unfolding(session::specs::Office::reopen))]
@@ -77,15 +72,10 @@ fn reopen_refusal(office: Office, room: usize) -> Result<(), Refusal>
 pub fn reopen(office: Office, out: &mut [u8]) -> Answered<Office>
     ensures { Gives (spec.reopen office (length out.old)) result out.old out.new }
 {
-    let verdict = reopen_refusal(office, out.len());
-    match verdict {
-        Ok(()) => office::send(office, Frame::opening(office.session), out),
-        Err(_) => Answered {
-            state: office,
-            verdict,
-            len: 0,
-        },
+    if let Err(refusal) = reopen_refusal(office, out.len()) {
+        return Answered::refused(office, refusal);
     }
+    office::send(office, Frame::opening(office.session), out)
 }
 
 #[tactic(auto, using(base::proofs::Tests::tests), unfolding(session::specs::Office::resend))]
@@ -113,13 +103,8 @@ fn kept_order(office: Office, number: OrderNumber) -> Frame
 pub fn resend(office: Office, number: OrderNumber, out: &mut [u8]) -> Answered<Office>
     ensures { Gives (spec.resend office number.0 (length out.old)) result out.old out.new }
 {
-    let verdict = resend_refusal(office, number, out.len());
-    match verdict {
-        Ok(()) => office::send(office, kept_order(office, number), out),
-        Err(_) => Answered {
-            state: office,
-            verdict,
-            len: 0,
-        },
+    if let Err(refusal) = resend_refusal(office, number, out.len()) {
+        return Answered::refused(office, refusal);
     }
+    office::send(office, kept_order(office, number), out)
 }
